@@ -1,0 +1,59 @@
+-- The bytes so far are masked, and the others as they were.
+use mathlib.Core.Path.{_≡_, _∙_, ap, sym}
+use mathlib.Core.List.{_++_}
+use Prim.Native.Nat.{ℕ, _+_, _-_, _≤_}
+use native.Mathlib.Omega.{arith}
+use borrow.Author.Needs.{needs}
+use lib.ListN.{length, take, drop, length-set}
+use lib.Seq.{take-all}
+use Rattle.hmac.specs.Hmac.{masked}
+use Rattle.hmac.specs.KeyLaws.{masked-none, masked-more, masked-done}
+use Rattle.hmac.proofs.mask.Statement.{statement}
+use Rattle.hmac.proofs.mask.Tie as tie
+
+abbrev Inv-loop : tie.InvT-loop
+Inv-loop pad b₀ i₀ b i = (i ≤ 64) × (length b ≡ 64) × (b ≡ masked pad (take i b₀) ++ drop i b₀)
+
+abbrev μ-loop : tie.MeasureT-loop
+μ-loop pad b₀ i₀ b i = 64 - i
+
+loop-holds : tie.Need-loop-holds Inv-loop μ-loop
+loop-holds c = (omega arith, search needs, masked-none _ _)
+
+array-read-b : tie.Need-array-read-b Inv-loop μ-loop
+array-read-b c = search needs
+
+array-write-b : tie.Need-array-write-b Inv-loop μ-loop
+array-write-b c = search needs
+
+add-i : tie.Need-add-i Inv-loop μ-loop
+add-i c = search needs
+
+loop-less : tie.Need-loop-less Inv-loop μ-loop
+loop-less c = search needs
+
+loop-again : tie.Need-loop-again Inv-loop μ-loop
+loop-again c = let a = c .before .before .args in
+    let l = c .before .loop in
+    let full : length (a .k) ≡ 64 = search needs in
+    (omega arith, simp length-set (omega arith), masked-more (a .pad) (a .k) (l .b) (l .i) (omega arith) (l .inv .2))
+
+returns : tie.Need-returns Inv-loop μ-loop
+returns c = let a = c .before .before .args in
+    let l = c .before .loop in
+    let full : length (a .k) ≡ 64 = search needs in
+    masked-done (a .pad) (a .k) (l .b) (l .i) (omega arith) (l .inv .2)
+
+pub mask-spec : {M : Type 1} → statement M
+mask-spec =
+    tie.close
+    (tie.spec
+    Inv-loop
+    μ-loop
+    loop-holds
+    array-read-b
+    array-write-b
+    add-i
+    loop-less
+    loop-again
+    returns)

@@ -1,0 +1,3 @@
+-- What the crate's contracts cite: Bytes holds the meanings, SameLaws laws of them.
+pub mod Bytes
+pub mod SameLaws

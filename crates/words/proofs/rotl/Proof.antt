@@ -1,0 +1,21 @@
+-- The code is the definition.
+use Rattle.words.specs.Words.{rotl}
+use borrow.Author.Needs.{needs}
+use Rattle.words.proofs.rotl.Statement.{statement}
+use Rattle.words.proofs.rotl.Tie as tie
+
+shl-result : tie.Need-shl-result
+shl-result c = search needs
+
+sub-result : tie.Need-sub-result
+sub-result c = search needs
+
+shr-result : tie.Need-shr-result
+shr-result c = search needs
+
+returns : tie.Need-returns
+unfolding rotl
+returns c = search needs
+
+pub rotl-spec : {M : Type 1} → statement M
+rotl-spec = tie.close (tie.spec shl-result sub-result shr-result returns)
