@@ -12,5 +12,6 @@ listings:
 	@second/target/release/listings crates/digests
 
 bench:
+	@mkdir -p target
 	@rt staticlib nectarnook >target/staticlib.log 2>&1 || { cat target/staticlib.log; exit 1; }
 	@second/bench.sh

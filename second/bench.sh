@@ -22,7 +22,9 @@ ld -r --force-group-allocation -u nectarnook_sha1 -u nectarnook_hmac_sha1 \
 objcopy -G nectarnook_sha1 -G nectarnook_hmac_sha1 "$objects/nectarnook.o"
 
 if command -v clang >/dev/null; then cc=clang; else cc=gcc; fi
-$cc -std=c99 -Wall -Wextra -Wpedantic -O3 -c "$here/plain/sha1.c" -o "$objects/plain.o"
+build="$cc -std=c99 -Wall -Wextra -Wpedantic -O3 -c"
+$build "$here/plain/sha1.c" -o "$objects/plain.o"
+$build -DUNROLLED "$here/plain/sha1.c" -o "$objects/unrolled.o"
 
 cd "$here"
 cargo build --release --offline --quiet --target-dir target --features bench --bin bench

@@ -1,5 +1,5 @@
-//! Links `bench`, and nothing else, with the two object files that bench.sh
-//! makes: the proved code and the plain C.
+//! Links `bench`, and nothing else, with the object files that bench.sh
+//! makes: the proved code, the plain C and the unrolled C.
 
 use std::env;
 use std::path::Path;
@@ -10,7 +10,7 @@ fn main() {
         return;
     }
     let root = env::var("CARGO_MANIFEST_DIR").expect("cargo sets it");
-    for name in ["nectarnook.o", "plain.o"] {
+    for name in ["nectarnook.o", "plain.o", "unrolled.o"] {
         let object = format!("{root}/target/bench/{name}");
         assert!(Path::new(&object).exists(), "no {object}; run bench.sh");
         println!("cargo::rerun-if-changed={object}");

@@ -8,6 +8,12 @@
 #define BLOCK PLAIN_SHA1_BLOCK
 #define DIGEST PLAIN_SHA1_DIGEST
 
+typedef struct {
+    uint32_t state[5];
+    uint64_t length; /* bytes of message taken so far */
+    uint8_t pending[PLAIN_SHA1_BLOCK]; /* the block not yet full */
+} plain_sha1_ctx;
+
 #define ROTL(x, n) (((x) << (n)) | ((x) >> (32 - (n))))
 
 /* The functions of section 4.1.1; Ch and Maj in forms that need one operation
@@ -28,6 +34,18 @@ static void store32(uint8_t *p, uint32_t x)
     p[2] = (uint8_t)(x >> 8);
     p[3] = (uint8_t)x;
 }
+
+/* Section 6.1.2, step 4. */
+static void add(uint32_t state[5], uint32_t a, uint32_t b, uint32_t c, uint32_t d, uint32_t e)
+{
+    state[0] += a;
+    state[1] += b;
+    state[2] += c;
+    state[3] += d;
+    state[4] += e;
+}
+
+#ifdef UNROLLED
 
 /* Word t of the message schedule, section 6.1.2, step 1. Computed as the rounds
    need it: a loop of its own over the schedule runs slower, as compilers turn
@@ -82,14 +100,48 @@ static void compress(uint32_t state[5], const uint8_t *block)
     TWENTY_ROUNDS(MAJ, 0x8f1bbcdc, 40);
     TWENTY_ROUNDS(PARITY, 0xca62c1d6, 60);
 
-    state[0] += a;
-    state[1] += b;
-    state[2] += c;
-    state[3] += d;
-    state[4] += e;
+    add(state, a, b, c, d, e);
 }
 
-void plain_sha1_init(plain_sha1_ctx *ctx)
+#else
+
+/* Twenty rounds from t on, section 6.1.2, step 3. */
+#define TWENTY_ROUNDS(f, k, from)                                    \
+    do {                                                             \
+        for (t = (from); t < (from) + 20; t++) {                     \
+            uint32_t sum = ROTL(a, 5) + f(b, c, d) + e + (k) + w[t]; \
+            e = d;                                                   \
+            d = c;                                                   \
+            c = ROTL(b, 30);                                         \
+            b = a;                                                   \
+            a = sum;                                                 \
+        }                                                            \
+    } while (0)
+
+/* The hash computation for one block, section 6.1.2, as the standard writes
+   it: the whole message schedule, then the rounds. */
+static void compress(uint32_t state[5], const uint8_t *block)
+{
+    uint32_t w[80];
+    uint32_t a = state[0], b = state[1], c = state[2], d = state[3], e = state[4];
+    int t;
+
+    for (t = 0; t < 16; t++)
+        w[t] = load32(block + 4 * t);
+    for (; t < 80; t++) {
+        uint32_t x = w[t - 3] ^ w[t - 8] ^ w[t - 14] ^ w[t - 16];
+        w[t] = ROTL(x, 1);
+    }
+    TWENTY_ROUNDS(CH, 0x5a827999, 0);
+    TWENTY_ROUNDS(PARITY, 0x6ed9eba1, 20);
+    TWENTY_ROUNDS(MAJ, 0x8f1bbcdc, 40);
+    TWENTY_ROUNDS(PARITY, 0xca62c1d6, 60);
+    add(state, a, b, c, d, e);
+}
+
+#endif
+
+static void plain_sha1_init(plain_sha1_ctx *ctx)
 {
     /* Section 5.3.1. */
     ctx->state[0] = 0x67452301;
@@ -100,7 +152,7 @@ void plain_sha1_init(plain_sha1_ctx *ctx)
     ctx->length = 0;
 }
 
-void plain_sha1_update(plain_sha1_ctx *ctx, const uint8_t *m, size_t n)
+static void plain_sha1_update(plain_sha1_ctx *ctx, const uint8_t *m, size_t n)
 {
     size_t filled = ctx->length % BLOCK;
 
@@ -124,7 +176,7 @@ void plain_sha1_update(plain_sha1_ctx *ctx, const uint8_t *m, size_t n)
 }
 
 /* Pads the message as section 5.1.1 says. */
-void plain_sha1_final(plain_sha1_ctx *ctx, uint8_t out[DIGEST])
+static void plain_sha1_final(plain_sha1_ctx *ctx, uint8_t out[DIGEST])
 {
     uint64_t bits = ctx->length * 8;
     size_t filled = ctx->length % BLOCK;

@@ -27,10 +27,11 @@ pub fn add64(x: u64, y: u64) -> u64
     std::num::wrapping_add_u64(x, y)
 }
 
+// By three operations in the place of four, as is Maj.
 pub fn ch(x: u32, y: u32, z: u32) -> u32
     ensures { λ r. ⌜ r ≡ ch x y z ⌝ }
 {
-    (x & y) ^ (!x & z)
+    z ^ (x & (y ^ z))
 }
 
 pub fn parity(x: u32, y: u32, z: u32) -> u32
@@ -42,7 +43,7 @@ pub fn parity(x: u32, y: u32, z: u32) -> u32
 pub fn maj(x: u32, y: u32, z: u32) -> u32
     ensures { λ r. ⌜ r ≡ maj x y z ⌝ }
 {
-    (x & y) ^ (x & z) ^ (y & z)
+    (x & y) ^ (z & (x ^ y))
 }
 
 fn wide(x: u8) -> u32

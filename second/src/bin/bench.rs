@@ -1,5 +1,5 @@
-//! Times the proved code, this crate's, plain C and OpenSSL side by side and
-//! prints a table in Markdown. bench.sh builds and runs it.
+//! Times the proved code, this crate's, plain C, unrolled C and OpenSSL side by
+//! side and prints a table in Markdown. bench.sh builds and runs it.
 
 use second::hmac::hmac_sha1;
 use second::listing::Request;
@@ -20,6 +20,8 @@ extern "C" {
     fn nectarnook_hmac_sha1(key: *const u8, k: usize, m: *const u8, n: usize, out: *mut u8);
     fn plain_sha1(m: *const u8, n: usize, out: *mut u8);
     fn plain_hmac_sha1(key: *const u8, k: usize, m: *const u8, n: usize, out: *mut u8);
+    fn unrolled_sha1(m: *const u8, n: usize, out: *mut u8);
+    fn unrolled_hmac_sha1(key: *const u8, k: usize, m: *const u8, n: usize, out: *mut u8);
 }
 
 const SEED: u64 = 1804;
@@ -74,6 +76,7 @@ fn implementations(openssl: Option<OpenSsl>) -> Vec<Implementation> {
             mac: Box::new(hmac_sha1),
         },
         from_c("plain C", plain_sha1, plain_hmac_sha1),
+        from_c("unrolled C", unrolled_sha1, unrolled_hmac_sha1),
     ];
     if let Some(openssl) = openssl {
         all.push(Implementation {
@@ -200,10 +203,10 @@ fn time(call: impl Fn() -> Digest) -> f64 {
 
 fn print_table(requests: &[Request], times: &[Vec<f64>]) {
     println!(
-        "| | nectarnook | second | plain C | OpenSSL \
-         | nectarnook / second | nectarnook / plain C | nectarnook / OpenSSL |"
+        "| | nectarnook | second | plain C | unrolled C | OpenSSL \
+         | against second | against plain C | against unrolled C | against OpenSSL |"
     );
-    println!("|---|--:|--:|--:|--:|--:|--:|--:|");
+    println!("|---|--:|--:|--:|--:|--:|--:|--:|--:|--:|");
     for (request, times) in requests.iter().zip(times) {
         match request {
             Request::Hash(message) => {
@@ -226,7 +229,7 @@ fn print_table(requests: &[Request], times: &[Vec<f64>]) {
 fn print_row(label: &str, shown: &[f64], times: &[f64]) {
     let number = |column| shown.get(column).map(|x| format!("{x:.0}"));
     let ratio = |column| times.get(column).map(|x| format!("{:.2}", x / times[0]));
-    let cells = (0..4).map(number).chain((1..4).map(ratio));
+    let cells = (0..5).map(number).chain((1..5).map(ratio));
     let cells: Vec<String> = cells.map(|cell| cell.unwrap_or("-".to_string())).collect();
     println!("| {label} | {} |", cells.join(" | "));
 }
