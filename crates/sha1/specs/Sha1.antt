@@ -3,9 +3,8 @@ use Prim.Native.Nat.{ℕ, zero, suc, _+_, _-_, _*_, _/_}
 use mathlib.Core.Bool.{Bool, true, false}
 use mathlib.Core.List.{List, [], _∷_, _++_}
 use lib.ListN.{length, getD}
-use lib.Bits.{bitXor}
 use lib.Dec.{ltb}
-use Rattle.words.specs.Words.{rotl, add32, ch, parity, maj, wordAt, bytes32}
+use Rattle.words.specs.Words.{rotl, xor32, add32, ch, parity, maj, wordAt, bytes32}
 use Rattle.md.specs.Padding.{padded}
 use Rattle.md.specs.Chain.{absorb}
 use Rattle.sha1.specs.declared.block.State.{State}
@@ -36,7 +35,7 @@ initial = record { a = 0x67452301; b = 0xefcdab89; c = 0x98badcfe; d = 0x1032547
 
 -- 6.1.2, step 1: W t for 16 ≤ t ≤ 79, from the words w before it: ROTL 1 (W (t-3) ⊕ W (t-8) ⊕ W (t-14) ⊕ W (t-16))
 unfoldable pub mixed : List ℕ → ℕ → ℕ
-mixed w t = rotl 1 (bitXor (bitXor (bitXor (getD w (t - 3) 0) (getD w (t - 8) 0)) (getD w (t - 14) 0)) (getD w (t - 16) 0))
+mixed w t = rotl 1 (xor32 (xor32 (xor32 (getD w (t - 3) 0) (getD w (t - 8) 0)) (getD w (t - 14) 0)) (getD w (t - 16) 0))
 
 -- W t: for 0 ≤ t ≤ 15 the block's own word
 unfoldable pub W : List ℕ → List ℕ → ℕ → ℕ

@@ -87,7 +87,8 @@ fn word(w: &mut [u32; 80], t: usize) -> u32
     if t < 16 {
         return w[t];
     }
-    let late = words::rotl(w[t - 3] ^ w[t - 8] ^ w[t - 14] ^ w[t - 16], 1);
+    let mixed = words::xor4(w[t - 3], w[t - 8], w[t - 14], w[t - 16]);
+    let late = words::rotl(mixed, 1);
     w[t] = late;
     late
 }

@@ -3,7 +3,7 @@ ghost use mathlib.Core.Path.{_≡_};
 ghost use Prim.Native.Nat.{_+_, _%_, _^_, _<_, _≤_};
 ghost use lib.ListN.{length};
 ghost use lib.Seq.{sets};
-ghost use Rattle.words.specs.Words.{rotl, add32, ch, parity, maj, wordAt, bytes32};
+ghost use Rattle.words.specs.Words.{rotl, add32, xor32, ch, parity, maj, wordAt, bytes32};
 
 // x rotated left by n bits.
 pub fn rotl(x: u32, n: u32) -> u32
@@ -27,7 +27,7 @@ pub fn add64(x: u64, y: u64) -> u64
     std::num::wrapping_add_u64(x, y)
 }
 
-// By three operations in the place of four, as is Maj.
+// By three operations in the place of four; Maj by four in the place of five.
 pub fn ch(x: u32, y: u32, z: u32) -> u32
     ensures { λ r. ⌜ r ≡ ch x y z ⌝ }
 {
@@ -44,6 +44,13 @@ pub fn maj(x: u32, y: u32, z: u32) -> u32
     ensures { λ r. ⌜ r ≡ maj x y z ⌝ }
 {
     (x & y) ^ (z & (x ^ y))
+}
+
+// v ⊕ x ⊕ y ⊕ z, as a message schedule mixes four words.
+pub fn xor4(v: u32, x: u32, y: u32, z: u32) -> u32
+    ensures { λ r. ⌜ r ≡ xor32 (xor32 (xor32 v x) y) z ⌝ }
+{
+    v ^ x ^ y ^ z
 }
 
 fn wide(x: u8) -> u32

@@ -1,5 +1,5 @@
--- The code is the definition.
-use Rattle.words.specs.Words.{rotl}
+-- The machine's shifts and OR are the standard's.
+use Rattle.words.specs.BitLaws.{rotl-is}
 use borrow.Author.Needs.{needs}
 use Rattle.words.proofs.rotl.Statement.{statement}
 use Rattle.words.proofs.rotl.Tie as tie
@@ -14,8 +14,7 @@ shr-result : tie.Need-shr-result
 shr-result c = search needs
 
 returns : tie.Need-returns
-unfolding rotl
-returns c = search needs
+returns c = rotl-is (c .args .n) (c .args .x) (c .fits .x .fits)
 
 pub rotl-spec : {M : Type 1} → statement M
 rotl-spec = tie.close (tie.spec shl-result sub-result shr-result returns)
