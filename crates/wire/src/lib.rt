@@ -1,6 +1,20 @@
-// Bytes in lent lists.
+// Bytes in lent lists: total reads, big-endian numbers, zeros, equality, and one write.
 ghost use mathlib.Core.Path.{_≡_};
-ghost use Rattle.wire.specs.Bytes.{same};
+ghost use Prim.Native.Nat.{_+_, _≤_, _<_};
+ghost use lib.ListN.{length, getD};
+ghost use Rattle.wire.specs.Bytes.{both, either, same, part, number, bytesOf, zeros, patch};
+
+pub fn and(a: bool, b: bool) -> bool
+    ensures { λ r. ⌜ r ≡ both a b ⌝ }
+{
+    if a { b } else { false }
+}
+
+pub fn or(a: bool, b: bool) -> bool
+    ensures { λ r. ⌜ r ≡ either a b ⌝ }
+{
+    if a { true } else { b }
+}
 
 // Are the two the same? All 20 bytes are looked at whatever they hold, so that the time taken tells nobody how many were right.
 pub fn same20(a: [u8; 20], b: [u8; 20]) -> bool
@@ -13,4 +27,79 @@ pub fn same20(a: [u8; 20], b: [u8; 20]) -> bool
         i += 1;
     }
     different == 0
+}
+
+// The byte at i, and 0 past the end.
+pub fn at(s: &[u8], i: usize) -> u8
+    ensures { λ r. ⌜ r ≡ getD (now (s .entry)) i 0 ⌝ }
+{
+    if i < s.len() { s[i] } else { 0 }
+}
+
+// The big-endian number in the two bytes from a on.
+pub fn be16(s: &[u8], a: usize) -> u16
+    requires { ⌜ a < 65536 ⌝ }
+    ensures { λ r. ⌜ r ≡ number 2 a (now (s .entry)) ⌝ }
+{
+    let high = at(s, a);
+    let low = at(s, a + 1);
+    (high as u16) * 256 + low as u16
+}
+
+// The big-endian number in the four bytes from a on.
+pub fn be32(s: &[u8], a: usize) -> u32
+    requires { ⌜ a < 65534 ⌝ }
+    ensures { λ r. ⌜ r ≡ number 4 a (now (s .entry)) ⌝ }
+{
+    let high = be16(s, a);
+    let low = be16(s, a + 2);
+    (high as u32) * 65536 + low as u32
+}
+
+// Are the n bytes from a on zero?
+pub fn are_zeros(s: &[u8], a: usize, n: usize) -> bool
+    requires { ⌜ (a < 65536) × (n < 65536) ⌝ }
+    ensures { λ r. ⌜ r ≡ zeros n a (now (s .entry)) ⌝ }
+{
+    let mut i = 0;
+    while i < n {
+        if at(s, a + i) != 0 {
+            return false;
+        }
+        i += 1;
+    }
+    true
+}
+
+// The 20 bytes from a on.
+pub fn bytes20(s: &[u8], a: usize) -> [u8; 20]
+    requires { ⌜ a + 20 ≤ length (now s) ⌝ }
+    ensures { λ r. ⌜ r ≡ part a 20 (now (s .entry)) ⌝ }
+{
+    let mut r = [0u8; 20];
+    let mut i = 0;
+    while i < 20 {
+        r[i] = s[a + i];
+        i += 1;
+    }
+    r
+}
+
+// The two big-endian bytes of x.
+pub fn bytes2(x: u32) -> [u8; 2]
+    ensures { λ r. ⌜ r ≡ bytesOf 2 x ⌝ }
+{
+    [(x / 256 % 256) as u8, (x % 256) as u8]
+}
+
+// Stores the bytes of s from a on.
+pub fn put(d: &mut [u8], a: usize, s: &[u8])
+    requires { ⌜ a + length (now s) ≤ length (now d) ⌝ }
+    ensures { λ r. ⌜ now (d .exit) ≡ patch (now (d .entry)) a (now (s .entry)) ⌝ }
+{
+    let mut i = 0;
+    while i < s.len() {
+        d[a + i] = s[i];
+        i += 1;
+    }
 }

@@ -1,0 +1,95 @@
+-- Laws of a patched list: its length, and what stands in it inside and outside the patch, byte by byte and part by part.
+use mathlib.Core.Path.{_≡_, refl, _∙_, sym, ap}
+use mathlib.Core.Logic.{_⊎_, inl, inr, ⊎-elim}
+use mathlib.Core.Bool.{Bool, true, false}
+use mathlib.Core.List.{List, [], _∷_, _++_, append-assoc}
+use Prim.Native.Nat.{ℕ, _+_, _-_, _≤_, _<_}
+use native.Mathlib.Omega.{arith}
+use lib.ListN.{length, take, drop, getD, length-append, length-take, length-drop, List·getD-append}
+use native.Mathlib.Nat.{add-assoc}
+use lib.Seq.{paste, take-at, drop-at, take-length, drop-drop, length-take-le, getD-append-add, getD-take, getD-drop, ext-getD}
+use Rattle.wire.specs.Bytes.{part, patch}
+
+pub length-patch : (xs : List ℕ) (a : ℕ) (ys : List ℕ) → a + length ys ≤ length xs → length (patch xs a ys) ≡ length xs
+unfolding patch
+length-patch xs a ys h = simp (length-append, length-take, length-drop) (omega arith)
+
+-- a copy of all of ys
+pub patch-paste : (xs : List ℕ) (a : ℕ) (ys : List ℕ) (n : ℕ) → n ≡ length ys → paste xs a ys n ≡ patch xs a ys
+unfolding patch
+patch-paste xs a ys n e = rw (e, take-length ys, append-assoc (take a xs) ys, drop-drop (length ys) a xs)
+
+-- the n bytes from a on were lent, as `&mut xs[a..a + n]`, and came back as ys
+pub patch-lent : (xs : List ℕ) (a n : ℕ) (ys zs : List ℕ) → a + n ≤ length xs → length ys ≡ length (take (a + n - a) (drop a xs)) → ys ≡ zs
+    → take a xs ++ (ys ++ drop (a + n - a) (drop a xs)) ≡ patch xs a zs
+unfolding patch
+patch-lent xs a n ys zs h k e =
+    let el : length ys ≡ a + n - a = simp (length-take, length-drop) at k ∙ omega arith in
+    rw (← el, e)
+
+module _ (xs : List ℕ) (a : ℕ) (ys : List ℕ) (fits : a + length ys ≤ length xs) where
+  front : length (take a xs) ≡ a
+  front = length-take-le a xs (omega arith)
+
+  at-before : (i : ℕ) → i < a → getD (patch xs a ys) i 0 ≡ getD xs i 0
+  unfolding patch
+  at-before i h = List·getD-append (take a xs) _ 0 i (rw front h) ∙ getD-take a xs i 0 h
+
+  at-in : (i : ℕ) → i < length ys → getD (patch xs a ys) (a + i) 0 ≡ getD ys i 0
+  unfolding patch
+  at-in i h =
+      ap (λ (k : ℕ). getD (take a xs ++ (ys ++ drop (length ys) (drop a xs))) (k + i) 0) (sym front)
+      ∙ getD-append-add (take a xs) (ys ++ drop (length ys) (drop a xs)) i 0
+      ∙ List·getD-append ys _ 0 i h
+
+  at-after : (j : ℕ) → getD (patch xs a ys) (a + (length ys + j)) 0 ≡ getD xs (a + (length ys + j)) 0
+  unfolding patch
+  at-after j =
+      ap (λ (k : ℕ). getD (take a xs ++ (ys ++ drop (length ys) (drop a xs))) (k + (length ys + j)) 0) (sym front)
+      ∙ getD-append-add (take a xs) (ys ++ drop (length ys) (drop a xs)) (length ys + j) 0
+      ∙ getD-append-add ys (drop (length ys) (drop a xs)) j 0
+      ∙ getD-drop (length ys) (drop a xs) j 0
+      ∙ getD-drop a xs (length ys + j) 0
+
+  -- a byte outside, and one inside
+  pub at-outside : (i : ℕ) → (i < a) ⊎ (a + length ys ≤ i) → getD (patch xs a ys) i 0 ≡ getD xs i 0
+  at-outside i (inl h) = at-before i h
+  at-outside i (inr h) =
+      let e : a + (length ys + (i - (a + length ys))) ≡ i = omega arith in
+      rw e at (at-after (i - (a + length ys)))
+
+  pub at-inside : (i : ℕ) → i < length ys → getD (patch xs a ys) (a + i) 0 ≡ getD ys i 0
+  at-inside i h = at-in i h
+
+  -- a part outside is as it was
+  pub part-outside : (b n : ℕ) → (b + n ≤ a) ⊎ (a + length ys ≤ b) → part b n (patch xs a ys) ≡ part b n xs
+  part-outside b n apart =
+      ext-getD 0 (part b n (patch xs a ys)) (part b n xs) (simp (length-take, length-drop, length-patch xs a ys fits))
+      (λ i h. let k : i < n = small i h in
+      getD-take n (drop b (patch xs a ys)) i 0 k ∙ getD-drop b (patch xs a ys) i 0 ∙ at-outside (b + i) (out i k)
+      ∙ sym (getD-take n (drop b xs) i 0 k ∙ getD-drop b xs i 0))
+    where
+      small : (i : ℕ) → i < length (part b n (patch xs a ys)) → i < n
+      small i h = let k = simp length-take at h in omega arith
+
+      out : (i : ℕ) → i < n → (b + i < a) ⊎ (a + length ys ≤ b + i)
+      out i k = ⊎-elim (λ h. inl (omega arith)) (λ h. inr (omega arith)) apart
+
+  -- a part inside is that part of the patch
+  pub part-inside : (b n : ℕ) → b + n ≤ length ys → part (a + b) n (patch xs a ys) ≡ part b n ys
+  part-inside b n h =
+      ext-getD 0 (part (a + b) n (patch xs a ys)) (part b n ys) lens
+      (λ i k. let g : i < n = small i k in
+      getD-take n (drop (a + b) (patch xs a ys)) i 0 g ∙ getD-drop (a + b) (patch xs a ys) i 0
+      ∙ rw (add-assoc a b i) (at-in (b + i) (omega arith)) ∙ sym (getD-take n (drop b ys) i 0 g ∙ getD-drop b ys i 0))
+    where
+      lens : length (part (a + b) n (patch xs a ys)) ≡ length (part b n ys)
+      lens = simp (length-take, length-drop, length-patch xs a ys fits) (omega arith)
+
+      small : (i : ℕ) → i < length (part (a + b) n (patch xs a ys)) → i < n
+      small i k = let g = simp length-take at k in omega arith
+
+  -- the whole patch
+  pub part-same : part a (length ys) (patch xs a ys) ≡ ys
+  unfolding patch
+  part-same = ap (λ (l : List ℕ). take (length ys) l) (drop-at (take a xs) _ a front) ∙ take-at ys _ (length ys) refl
