@@ -1,3 +1,4 @@
+-- Zeros so far: what is left decides.
 use mathlib.Core.Path.{_≡_, refl, _∙_, sym, ap}
 use Prim.Native.Nat.{_≤_, _-_, _+_}
 use native.Mathlib.Omega.{arith}

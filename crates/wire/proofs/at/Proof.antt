@@ -1,3 +1,4 @@
+-- Past the end the default stands.
 use mathlib.Core.Path.{sym}
 use lib.ListN.{List·getD-eq-default}
 use denote.Ref.{now}

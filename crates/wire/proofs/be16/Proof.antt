@@ -5,39 +5,28 @@ use Rattle.wire.specs.NumberLaws.{number-two}
 use borrow.Author.Needs.{needs}
 use Rattle.wire.proofs.be16.Statement.{statement}
 use Rattle.wire.proofs.be16.Tie as tie
-use Rattle.wire.proofs.be16.Reads as reads
-use Rattle.wire.proofs.be16.Lts as lts
-use Rattle.wire.proofs.at.Reads as at-reads
 
--- src/lib.rt:44:9
 at-requires : tie.Need-at-requires
 at-requires c κs = search needs
 
--- src/lib.rt:45:21
 add-at : tie.Need-add-at
 add-at c = search needs
 
--- src/lib.rt:45:9
 at-requires-2 : tie.Need-at-requires-2
 at-requires-2 c κs = search needs
 
--- src/lib.rt:46:6
 cast-result : tie.Need-cast-result
 cast-result c = search needs
 
--- src/lib.rt:46:5
 mul-result : tie.Need-mul-result
 mul-result c = search needs
 
--- src/lib.rt:46:27
 cast-result-2 : tie.Need-cast-result-2
 cast-result-2 c = search needs
 
--- src/lib.rt:46:5
 add-result : tie.Need-add-result
 add-result c = search needs
 
--- src/lib.rt:40:1
 returns : tie.Need-returns
 returns c =
     ap₂ (λ (x y : ℕ). x * 256 + y) (c .before .at .ensures) (c .at2 .ensures) ∙ sym (number-two _ _)

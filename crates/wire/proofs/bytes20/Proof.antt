@@ -8,8 +8,6 @@ use lib.Seq.{take-suc, take-suc-set, take-all, getD-drop}
 use borrow.Author.Needs.{needs}
 use Rattle.wire.proofs.bytes20.Statement.{statement}
 use Rattle.wire.proofs.bytes20.Tie as tie
-use Rattle.wire.proofs.bytes20.Reads as reads
-use Rattle.wire.proofs.bytes20.Lts as lts
 
 abbrev Inv-loop : tie.InvT-loop
 Inv-loop s a r₀ i₀ r i = (i ≤ 20) × (length r ≡ 20) × (take i r ≡ take i (drop a s))
@@ -17,41 +15,35 @@ Inv-loop s a r₀ i₀ r i = (i ≤ 20) × (length r ≡ 20) × (take i r ≡ ta
 abbrev μ-loop : tie.MeasureT-loop
 μ-loop s a r₀ i₀ r i = 20 - i
 
--- src/lib.rt:81:5
 loop-holds : tie.Need-loop-holds Inv-loop μ-loop
 loop-holds c = (omega arith, refl, refl)
 
--- src/lib.rt:82:18
 add-r : tie.Need-add-r Inv-loop μ-loop
 add-r c = search needs
 
--- src/lib.rt:82:16
 shared-slice-read-r : tie.Need-shared-slice-read-r Inv-loop μ-loop
 shared-slice-read-r c = search needs
 
--- src/lib.rt:82:9
 array-write-r : tie.Need-array-write-r Inv-loop μ-loop
 array-write-r c = search needs
 
--- src/lib.rt:83:9
 add-i : tie.Need-add-i Inv-loop μ-loop
 add-i c = search needs
 
--- src/lib.rt:81:5
 loop-less : tie.Need-loop-less Inv-loop μ-loop
 loop-less c = search needs
 
--- src/lib.rt:81:5
 loop-again : tie.Need-loop-again Inv-loop μ-loop
 loop-again c =
     let l = c .before .before .loop in
     let g = c .before .before .before .args in
     let s = g .s .now in
-    let full : l .i < length (drop (g .a) s) = rw length-drop (omega arith) in
-    (omega arith, simp length-set (omega arith),
-      rw (add-one, take-suc-set (l .r) (l .i) _ (omega arith), l .inv .2, take-suc (drop (g .a) s) (l .i) 0 full, getD-drop (g .a) s (l .i) 0))
+    let full : l .i < length (drop (g .a) s) = rw length-drop (omega arith) in (
+      omega arith,
+      simp length-set (omega arith),
+      rw (add-one, take-suc-set (l .r) (l .i) _ (omega arith), l .inv .2, take-suc (drop (g .a) s) (l .i) 0 full, getD-drop (g .a) s (l .i) 0),
+    )
 
--- src/lib.rt:75:1
 returns : tie.Need-returns Inv-loop μ-loop
 returns c =
     let l = c .before .loop in

@@ -1,0 +1,94 @@
+-- The blank record: its check, computed; and that it is the only sound record of zeros.
+use mathlib.Core.Path.{_≡_, refl, _∙_, sym, ap, ap₂}
+use mathlib.Core.Bool.{Bool, true, false}
+use mathlib.Core.List.{List, [], _∷_, _++_}
+use Prim.Native.Nat.{ℕ, _+_, _≤_}
+use native.Mathlib.Omega.{arith}
+use lib.ListN.{length, take, drop, replicate, length-replicate, length-drop, take-append-drop, length-take}
+use lib.Seq.{take-all, length-take-le}
+use Rattle.wire.specs.Bytes.{both, same, part, zeros, patch}
+use Rattle.wire.specs.SameLaws.{same-true, same-refl, same-is}
+use Rattle.wire.specs.ZeroLaws.{zeros-part, zeros-replicate}
+use Rattle.words.specs.Words.{bits, and32, or32, xor32, not32, add32, rotl, ch, parity, maj, be32, wordAt, bytes32}
+use Rattle.md.specs.Padding.{zerosFor, lengthBlock, padding, padded}
+use Rattle.md.specs.Chain.{absorb}
+use Rattle.sha1.specs.Sha1.{f, K, initial, mixed, W, schedule, turned, round, rounds, plus, compressed, digestOf, blocks, sha1}
+use Rattle.seal.specs.Seal.{checked, seal, blank, blankRecord}
+use Rattle.seal.specs.SealLaws.{seal-length, seal-checked, seal-zeros}
+
+-- the SHA-1 of 492 zeros
+abbrev pub blankCheck : List ℕ
+blankCheck = 0xaa ∷ 0xc4 ∷ 0x93 ∷ 0xc3 ∷ 0xed ∷ 0x21 ∷ 0x3d ∷ 0x17 ∷ 0xb8 ∷ 0x3b ∷ 0x2e ∷ 0x8a ∷ 0x28 ∷ 0x3b ∷ 0xa5 ∷ 0xf4 ∷ 0xdd ∷ 0xf1 ∷ 0x62 ∷ 0xd4 ∷ []
+
+-- worked out by the checker from the definition of SHA-1
+computed : sha1 (replicate 492 0) ≡ blankCheck
+unfolding sha1 blocks absorb digestOf compressed plus padded padding zerosFor lengthBlock bytes32 schedule W mixed wordAt be32 rounds round turned f K ch parity maj not32 xor32 and32 or32 bits rotl add32 initial
+computed = refl
+
+pub blank-length : length blank ≡ 512
+unfolding blank
+blank-length = length-replicate {A = ℕ} 512 0
+
+blank-front : take 492 blank ≡ replicate 492 0
+unfolding blank
+blank-front = refl
+
+pub blank-check : sha1 (take 492 blank) ≡ blankCheck
+blank-check = ap sha1 blank-front ∙ computed
+
+-- the record in two parts
+two-parts : take 492 blank ++ (blankCheck ++ drop 20 (drop 492 blank)) ≡ replicate 492 0 ++ blankCheck
+unfolding blank
+two-parts = refl
+
+pub blank-parts : blankRecord ≡ replicate 492 0 ++ blankCheck
+unfolding blankRecord seal patch
+blank-parts = rw blank-check two-parts
+
+pub record-length : length blankRecord ≡ 512
+unfolding blankRecord
+record-length = seal-length blank blank-length
+
+pub record-checked : checked blankRecord ≡ true
+unfolding blankRecord
+record-checked = seal-checked blank blank-length
+
+blank-zeros : zeros 492 0 blank ≡ true
+unfolding blank
+blank-zeros = zeros-replicate 512 492 0 (omega arith)
+
+pub record-zeros : zeros 492 0 blankRecord ≡ true
+unfolding blankRecord
+record-zeros = seal-zeros blank blank-length 492 0 (omega arith) blank-zeros
+
+-- zeros up to 491 and the check are this record
+pub blank-only : (l : List ℕ) → length l ≡ 512 → zeros 492 0 l ≡ true → part 492 20 l ≡ blankCheck → l ≡ blankRecord
+blank-only l full z c =
+    let front : take 492 l ≡ replicate 492 0 = zeros-part 492 0 l (omega arith) z in
+    let back : drop 492 l ≡ blankCheck = sym (take-all 20 (drop 492 l) (rw length-drop (omega arith))) ∙ c in
+    sym (take-append-drop 492 l) ∙ ap₂ (λ (x y : List ℕ). x ++ y) front back ∙ sym blank-parts
+
+pub blank-sound : (l : List ℕ) → length l ≡ 512 → checked l ≡ true → zeros 492 0 l ≡ true → l ≡ blankRecord
+unfolding checked
+blank-sound l full k z =
+    let front : take 492 l ≡ replicate 492 0 = zeros-part 492 0 l (omega arith) z in
+    blank-only l full z (same-true (part 492 20 l) (sha1 (take 492 l)) k ∙ ap sha1 front ∙ computed)
+
+both-parts : (a b : Bool) → both a b ≡ true → (a ≡ true) × (b ≡ true)
+both-parts true b e = (refl, e)
+both-parts false b e = let z : true ≡ false = sym e in (sym z, cc)
+
+record-check : part 492 20 blankRecord ≡ blankCheck
+record-check = rw blank-parts refl
+
+-- the test by zeros and constant is equality with the blank record
+pub blank-test : (l : List ℕ) → length l ≡ 512 → both (zeros 492 0 l) (same (part 492 20 l) blankCheck) ≡ same l blankRecord
+blank-test l full =
+    same-is (both (zeros 492 0 l) (same (part 492 20 l) blankCheck)) l blankRecord
+    (λ e. let p = both-parts (zeros 492 0 l) (same (part 492 20 l) blankCheck) e in blank-only l full (p .0) (same-true (part 492 20 l) blankCheck (p .1)))
+    (λ e. rw (e, record-zeros, record-check) (same-refl blankCheck))
+
+-- zeros with the constant behind them
+pub blank-made : (l : List ℕ) → l ≡ replicate 512 0 → patch l 492 blankCheck ≡ blankRecord
+unfolding blankRecord seal blank
+blank-made l e = rw (e, blank-check)
