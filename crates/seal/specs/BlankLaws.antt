@@ -29,6 +29,10 @@ pub blank-length : length blank ≡ 512
 unfolding blank
 blank-length = length-replicate {A = ℕ} 512 0
 
+pub blank-is : (l : List ℕ) (n : ℕ) → l ≡ replicate n 0 → n ≡ 512 → l ≡ blank
+unfolding blank
+blank-is l n e h = e ∙ ap (λ (k : ℕ). replicate k 0) h
+
 blank-front : take 492 blank ≡ replicate 492 0
 unfolding blank
 blank-front = refl
@@ -53,13 +57,13 @@ pub record-checked : checked blankRecord ≡ true
 unfolding blankRecord
 record-checked = seal-checked blank blank-length
 
-blank-zeros : zeros 492 0 blank ≡ true
+pub blank-run : (n a : ℕ) → a + n ≤ 512 → zeros n a blank ≡ true
 unfolding blank
-blank-zeros = zeros-replicate 512 492 0 (omega arith)
+blank-run n a h = zeros-replicate 512 n a h
 
 pub record-zeros : zeros 492 0 blankRecord ≡ true
 unfolding blankRecord
-record-zeros = seal-zeros blank blank-length 492 0 (omega arith) blank-zeros
+record-zeros = seal-zeros blank blank-length 492 0 (omega arith) (blank-run 492 0 (omega arith))
 
 -- zeros up to 491 and the check are this record
 pub blank-only : (l : List ℕ) → length l ≡ 512 → zeros 492 0 l ≡ true → part 492 20 l ≡ blankCheck → l ≡ blankRecord

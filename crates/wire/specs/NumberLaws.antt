@@ -56,3 +56,9 @@ number-add n (suc m) a l =
 pub number-two : (a : ℕ) (l : List ℕ) → number 2 a l ≡ getD l a 0 * 256 + getD l (a + 1) 0
 unfolding number
 number-two a l = rw (add-zero a) (omega arith)
+
+-- bytes that are zero make zero
+pub number-none : (n a : ℕ) (l : List ℕ) → ((i : ℕ) → i < n → getD l (a + i) 0 ≡ 0) → number n a l ≡ 0
+unfolding number
+number-none zero a l e = refl
+number-none (suc n) a l e = rw (number-none n a l (λ i h. e i (omega arith)), e n (omega arith))

@@ -6,7 +6,7 @@ use mathlib.Core.List.{List, [], _∷_, _++_, append-assoc}
 use Prim.Native.Nat.{ℕ, _+_, _-_, _≤_, _<_}
 use native.Mathlib.Omega.{arith}
 use lib.ListN.{length, take, drop, getD, length-append, length-take, length-drop, List·getD-append}
-use native.Mathlib.Nat.{add-assoc}
+use native.Mathlib.Nat.{add-assoc, add-sub-cancel-left}
 use lib.Seq.{paste, take-at, drop-at, take-length, drop-drop, length-take-le, getD-append-add, getD-take, getD-drop, ext-getD}
 use Rattle.wire.specs.Bytes.{part, patch}
 
@@ -26,6 +26,10 @@ unfolding patch
 patch-lent xs a n ys zs h k e =
     let el : length ys ≡ a + n - a = simp (length-take, length-drop) at k ∙ omega arith in
     rw (← el, e)
+
+-- the n bytes from a on, as `&l[a..a + n]` lends them
+pub lent-part : (l : List ℕ) (a n : ℕ) → take (a + n - a) (drop a l) ≡ part a n l
+lent-part l a n = rw (add-sub-cancel-left a n)
 
 module _ (xs : List ℕ) (a : ℕ) (ys : List ℕ) (fits : a + length ys ≤ length xs) where
   front : length (take a xs) ≡ a
@@ -93,3 +97,20 @@ module _ (xs : List ℕ) (a : ℕ) (ys : List ℕ) (fits : a + length ys ≤ len
   pub part-same : part a (length ys) (patch xs a ys) ≡ ys
   unfolding patch
   part-same = ap (λ (l : List ℕ). take (length ys) l) (drop-at (take a xs) _ a front) ∙ take-at ys _ (length ys) refl
+
+  -- a second patch, right behind the first, makes one of the two
+  pub patch-join : (b : ℕ) (zs : List ℕ) → b ≡ a + length ys → patch (patch xs a ys) b zs ≡ patch xs a (ys ++ zs)
+  unfolding patch
+  patch-join b zs e =
+      let p : List ℕ = take a xs in
+      let r : List ℕ = drop (length ys) (drop a xs) in
+      let lp : length (p ++ ys) ≡ b = length-append p ys ∙ ap (λ (n : ℕ). n + length ys) front ∙ sym e in
+      let whole : p ++ (ys ++ r) ≡ (p ++ ys) ++ r = sym (append-assoc p ys r) in
+      let rest : drop (length zs) r ≡ drop (length (ys ++ zs)) (drop a xs) =
+      drop-drop (length zs) (length ys) (drop a xs) ∙ ap (λ (n : ℕ). drop n (drop a xs)) (sym (length-append ys zs)) in
+      ap (λ (l : List ℕ). take b l ++ (zs ++ drop (length zs) (drop b l))) whole
+      ∙ ap (λ (l : List ℕ). l ++ (zs ++ drop (length zs) (drop b ((p ++ ys) ++ r)))) (take-at (p ++ ys) r b lp)
+      ∙ ap (λ (l : List ℕ). (p ++ ys) ++ (zs ++ drop (length zs) l)) (drop-at (p ++ ys) r b lp)
+      ∙ ap (λ (l : List ℕ). (p ++ ys) ++ (zs ++ l)) rest
+      ∙ append-assoc p ys (zs ++ drop (length (ys ++ zs)) (drop a xs))
+      ∙ ap (λ (l : List ℕ). p ++ l) (sym (append-assoc ys zs (drop (length (ys ++ zs)) (drop a xs))))

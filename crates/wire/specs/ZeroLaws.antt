@@ -10,7 +10,8 @@ use lib.Dec.{eqb}
 use lib.ListN.{length, getD, replicate, getD-replicate, length-replicate, length-take, length-drop, take, drop}
 use lib.Seq.{ext-getD, getD-take, getD-drop}
 use borrow.Author.Tests.{eq-eqb, ne-eqb, eqb-true}
-use Rattle.wire.specs.Bytes.{both, part, zeros, patch}
+use Rattle.wire.specs.Bytes.{both, part, number, zeros, patch}
+use Rattle.wire.specs.NumberLaws.{number-none}
 use Rattle.wire.specs.PatchLaws.{at-outside}
 
 -- ---- the loop: none left, one more, one that is not zero
@@ -72,3 +73,12 @@ zeros-part n a l h z =
   where
     lens : length (part a n l) ≡ length {A = ℕ} (replicate n 0)
     lens = simp (length-take, length-drop, length-replicate) (omega arith)
+
+-- a run of zeros within a run of zeros
+pub zeros-within : (n a m b : ℕ) (l : List ℕ) → a ≤ b → b + m ≤ a + n → zeros n a l ≡ true → zeros m b l ≡ true
+zeros-within n a m b l h k z =
+    zeros-all m b l (λ i g. let e : a + (b + i - a) ≡ b + i = omega arith in rw e at (zeros-at n a l z (b + i - a) (omega arith)))
+
+-- the number in a run of zeros
+pub number-zeros : (n a : ℕ) (l : List ℕ) → zeros n a l ≡ true → number n a l ≡ 0
+number-zeros n a l z = number-none n a l (zeros-at n a l z)

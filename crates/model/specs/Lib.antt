@@ -1,0 +1,15 @@
+-- What the crate's contracts cite, by subject, and beside each the laws of it.
+pub mod Choice
+pub mod ChoiceLaws
+-- answers
+pub mod Paper
+pub mod PaperLaws
+pub mod Refusal
+-- commands
+pub mod Rows
+pub mod RowLaws
+pub mod Codes
+pub mod CodeLaws
+-- IN page 0013h
+pub mod Controlled
+pub mod ControlledLaws

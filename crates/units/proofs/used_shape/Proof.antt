@@ -1,0 +1,76 @@
+-- Call by call as the definition has it.
+use Rattle.units.specs.Unit.{usedShape, layout, unitNumber, method, step, nextPairZero, unnamedZero}
+use borrow.Author.Needs.{needs}
+use Rattle.units.proofs.used_shape.Statement.{statement}
+use Rattle.units.proofs.used_shape.Tie as tie
+
+be16-requires : tie.Need-be16-requires
+be16-requires c κs = search needs
+
+be16-requires-2 : tie.Need-be16-requires-2
+be16-requires-2 c κs = search needs
+
+cast-number : tie.Need-cast-number
+cast-number c = search needs
+
+be16-requires-3 : tie.Need-be16-requires-3
+be16-requires-3 c κs = search needs
+
+be32-requires : tie.Need-be32-requires
+be32-requires c κs = search needs
+
+are-zeros-requires : tie.Need-are-zeros-requires
+are-zeros-requires c κs = search needs
+
+or-requires : tie.Need-or-requires
+or-requires c κs = search needs
+
+keys-zero-requires : tie.Need-keys-zero-requires
+keys-zero-requires c κs = search needs
+
+are-zeros-requires-2 : tie.Need-are-zeros-requires-2
+are-zeros-requires-2 c κs = search needs
+
+and-requires : tie.Need-and-requires
+and-requires c κs = search needs
+
+and-requires-2 : tie.Need-and-requires-2
+and-requires-2 c κs = search needs
+
+and-requires-3 : tie.Need-and-requires-3
+and-requires-3 c κs = search needs
+
+and-requires-4 : tie.Need-and-requires-4
+and-requires-4 c κs = search needs
+
+and-requires-5 : tie.Need-and-requires-5
+and-requires-5 c κs = search needs
+
+and-requires-6 : tie.Need-and-requires-6
+and-requires-6 c κs = search needs
+
+returns : tie.Need-returns
+unfolding usedShape layout unitNumber method step nextPairZero unnamedZero
+returns c =
+    simp (c .and6 .ensures, c .before .and5 .ensures, c .before .before .and4 .ensures, c .before .before .before .and3 .ensures, c .before .before .before .before .and2 .ensures, c .before .before .before .before .before .and .ensures, c .before .before .before .before .before .before .are-zeros2 .ensures, c .before .before .before .before .before .before .before .keys-zero .ensures, c .before .before .before .before .before .before .before .before .or .ensures, c .before .before .before .before .before .before .before .before .before .are-zeros .ensures, c .before .before .before .before .before .before .before .before .before .before .be32 .ensures, c .before .before .before .before .before .before .before .before .before .before .before .be163 .ensures, c .before .before .before .before .before .before .before .before .before .before .before .before .be162 .ensures, c .before .before .before .before .before .before .before .before .before .before .before .before .before .be16 .ensures)
+
+pub used-shape-spec : {M : Type 1} → statement M
+used-shape-spec =
+    tie.close
+    (tie.spec
+    be16-requires
+    be16-requires-2
+    cast-number
+    be16-requires-3
+    be32-requires
+    are-zeros-requires
+    or-requires
+    keys-zero-requires
+    are-zeros-requires-2
+    and-requires
+    and-requires-2
+    and-requires-3
+    and-requires-4
+    and-requires-5
+    and-requires-6
+    returns)

@@ -1,0 +1,106 @@
+-- Unit records (document 01, "Records of 512 bytes", Unit): fields, soundness, a record as it is built, and the unit table.
+use mathlib.Core.Bool.{Bool, true, false}
+use mathlib.Core.List.{List, _++_}
+use Prim.Native.Nat.{ℕ, zero, suc, _+_, _*_, _/_, _%_, _^_}
+use lib.Dec.{eqb, leb}
+use Rattle.wire.specs.Bytes.{both, either, part, number, bytesOf, zeros, patch}
+use Rattle.seal.specs.Seal.{checked, seal, blank}
+use Rattle.units.specs.declared.UnitState.{UnitState}
+use Rattle.units.specs.declared.UnitState.the-variants.{Unused, Used, Unsound}
+
+-- 0-1 layout, 1 used; 2-3 unit number; 4-5 method; 6-7 mask of valid working keys; 8-11 policy access tag; 12-15 step
+unfoldable pub layout : List ℕ → ℕ
+layout l = number 2 0 l
+
+unfoldable pub unitNumber : List ℕ → ℕ
+unitNumber l = number 2 2 l
+
+unfoldable pub method : List ℕ → ℕ
+method l = number 2 4 l
+
+unfoldable pub mask : List ℕ → ℕ
+mask l = number 2 6 l
+
+unfoldable pub policyTag : List ℕ → ℕ
+policyTag l = number 4 8 l
+
+unfoldable pub step : List ℕ → ℕ
+step l = number 4 12 l
+
+-- 16-31 unit identifier; 32-51 authentication master key; 52-71 generation master key; 72-91 and 92-111 the next pair, same order
+unfoldable pub identifier : List ℕ → List ℕ
+identifier l = part 16 16 l
+
+unfoldable pub authKey : List ℕ → List ℕ
+authKey l = part 32 20 l
+
+unfoldable pub genKey : List ℕ → List ℕ
+genKey l = part 52 20 l
+
+unfoldable pub nextAuthKey : List ℕ → List ℕ
+nextAuthKey l = part 72 20 l
+
+unfoldable pub nextGenKey : List ℕ → List ℕ
+nextGenKey l = part 92 20 l
+
+unfoldable pub nextPairZero : List ℕ → Bool
+nextPairZero l = zeros 40 72 l
+
+-- 112-431 sixteen working keys of 20 bytes; version v's bit of the mask says that its key is valid
+unfoldable pub workingKey : ℕ → List ℕ → List ℕ
+workingKey v l = part (112 + 20 * v) 20 l
+
+unfoldable pub isValid : ℕ → List ℕ → Bool
+isValid v l = eqb (mask l / 2 ^ v % 2) 1
+
+-- of the versions below n, each key that is not valid is zero
+unfoldable pub keysZero : ℕ → List ℕ → Bool
+keysZero zero l = true
+keysZero (suc v) l = both (keysZero v l) (either (isValid v l) (zeros 20 (112 + 20 * v) l))
+
+-- the bytes that are unnamed today: 432-491
+unfoldable pub unnamedZero : List ℕ → Bool
+unnamedZero l = zeros 60 432 l
+
+-- a used record at the place u: number equal to its place, method 0 or 1, step 0 or 1, next pair zero at step 0, keys zero where not
+-- valid, unnamed bytes zero
+unfoldable pub usedShape : ℕ → List ℕ → Bool
+usedShape u l =
+    both (eqb (layout l) 1)
+    (both (eqb (unitNumber l) u)
+    (both (leb (method l) 1)
+    (both (leb (step l) 1)
+    (both (either (eqb (step l) 1) (nextPairZero l))
+    (both (keysZero 16 l) (unnamedZero l))))))
+
+abbrev pub pick : Bool → UnitState → UnitState → UnitState
+pick true a b = a
+pick false a b = b
+
+-- soundness is check, shape and zeros together; an unused record is zero up to 491, at any place
+unfoldable pub unitStateOf : ℕ → List ℕ → UnitState
+unitStateOf u l = pick (checked l) (pick (zeros 492 0 l) Unused (pick (usedShape u l) Used Unsound)) Unsound
+
+-- ---- the unit table: soundness and key lookup go by the table and the unit number
+
+-- the record of unit u
+abbrev pub unitAt : ℕ → List ℕ → List ℕ
+unitAt u units = part (u * 512) 512 units
+
+unfoldable pub unitState : List ℕ → ℕ → UnitState
+unitState units u = unitStateOf u (unitAt u units)
+
+-- the record that keeps unit u's keys, mask and step: its own
+unfoldable pub keySetOf : List ℕ → ℕ → List ℕ
+keySetOf units u = unitAt u units
+
+-- ---- a record as it is built: mask 0, step 0, the rest as asked, no next pair and no working key
+
+unfoldable pub builtHead : ℕ → ℕ → ℕ → List ℕ
+builtHead u m t = bytesOf 2 1 ++ (bytesOf 2 u ++ (bytesOf 2 m ++ (bytesOf 2 0 ++ (bytesOf 4 t ++ bytesOf 4 0))))
+
+unfoldable pub builtBody : ℕ → ℕ → ℕ → List ℕ → List ℕ → List ℕ → List ℕ
+builtBody u m t id auth gen = builtHead u m t ++ (id ++ (auth ++ gen))
+
+unfoldable pub builtRecord : ℕ → ℕ → ℕ → List ℕ → List ℕ → List ℕ → List ℕ
+builtRecord u m t id auth gen = seal (patch blank 0 (builtBody u m t id auth gen))
