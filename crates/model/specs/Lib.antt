@@ -13,3 +13,4 @@ pub mod CodeLaws
 -- IN page 0013h
 pub mod Controlled
 pub mod ControlledLaws
+pub mod Edges

@@ -80,10 +80,12 @@ pub fn unit_state(units: &[u8], unit: UnitNo) -> UnitState
     state_of(&units[a..e], place)
 }
 
-// The first sixteen bytes of a record as it is built: mask 0 and step 0.
+// The first sixteen bytes of a record as it is built.
 fn built_head(unit: u32, method: u32, tag: u32) -> [u8; 16]
     ensures { λ r. ⌜ r ≡ builtHead unit method tag ⌝ }
 {
+    let mask = 0u32;
+    let step = 0u32;
     [
         0,
         1,
@@ -91,16 +93,16 @@ fn built_head(unit: u32, method: u32, tag: u32) -> [u8; 16]
         (unit % 256) as u8,
         (method / 256 % 256) as u8,
         (method % 256) as u8,
-        0,
-        0,
+        (mask / 256 % 256) as u8,
+        (mask % 256) as u8,
         (tag / 256 / 256 / 256 % 256) as u8,
         (tag / 256 / 256 % 256) as u8,
         (tag / 256 % 256) as u8,
         (tag % 256) as u8,
-        0,
-        0,
-        0,
-        0,
+        (step / 256 / 256 / 256 % 256) as u8,
+        (step / 256 / 256 % 256) as u8,
+        (step / 256 % 256) as u8,
+        (step % 256) as u8,
     ]
 }
 
@@ -110,18 +112,18 @@ pub fn write_built(
     unit: u32,
     method: u32,
     tag: u32,
-    id: &[u8],
-    auth_key: &[u8],
-    gen_key: &[u8],
+    id: [u8; 16],
+    auth_key: [u8; 20],
+    gen_key: [u8; 20],
 )
-    requires { ⌜ (length (now rec) ≡ 512) × (length (now id) ≡ 16) × (length (now «auth_key») ≡ 20) × (length (now «gen_key») ≡ 20) ⌝ }
-    ensures { λ _. ⌜ now (rec .exit) ≡ builtRecord unit method tag (now (id .entry)) (now («auth_key» .entry)) (now («gen_key» .entry)) ⌝ }
+    requires { ⌜ length (now rec) ≡ 512 ⌝ }
+    ensures { λ _. ⌜ now (rec .exit) ≡ builtRecord unit method tag id «auth_key» «gen_key» ⌝ }
 {
     let head = built_head(unit, method, tag);
     seal::clear(rec);
     wire::put(rec, 0, &head);
-    wire::put(rec, 16, id);
-    wire::put(rec, 32, auth_key);
-    wire::put(rec, 52, gen_key);
+    wire::put(rec, 16, &id);
+    wire::put(rec, 32, &auth_key);
+    wire::put(rec, 52, &gen_key);
     seal::seal_record(rec);
 }

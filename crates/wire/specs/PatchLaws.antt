@@ -3,10 +3,12 @@ use mathlib.Core.Path.{_≡_, refl, _∙_, sym, ap}
 use mathlib.Core.Logic.{_⊎_, inl, inr, ⊎-elim}
 use mathlib.Core.Bool.{Bool, true, false}
 use mathlib.Core.List.{List, [], _∷_, _++_, append-assoc}
-use Prim.Native.Nat.{ℕ, _+_, _-_, _≤_, _<_}
+use Prim.Native.Nat.{ℕ, _+_, _-_, _*_, _≤_, _<_}
 use native.Mathlib.Omega.{arith}
 use lib.ListN.{length, take, drop, getD, length-append, length-take, length-drop, List·getD-append}
 use native.Mathlib.Nat.{add-assoc, add-sub-cancel-left}
+use lib.Dec.{ltb}
+use borrow.Author.Tests.{ltb-true, ltb-false}
 use lib.Seq.{paste, take-at, drop-at, take-length, drop-drop, length-take-le, getD-append-add, getD-take, getD-drop, ext-getD}
 use Rattle.wire.specs.Bytes.{part, patch}
 
@@ -114,3 +116,28 @@ module _ (xs : List ℕ) (a : ℕ) (ys : List ℕ) (fits : a + length ys ≤ len
       ∙ ap (λ (l : List ℕ). (p ++ ys) ++ (zs ++ l)) rest
       ∙ append-assoc p ys (zs ++ drop (length (ys ++ zs)) (drop a xs))
       ∙ ap (λ (l : List ℕ). p ++ l) (sym (append-assoc ys zs (drop (length (ys ++ zs)) (drop a xs))))
+
+-- ---- tables of records of 512 bytes
+
+module _ (t : List ℕ) (i : ℕ) (r : List ℕ) (full : length r ≡ 512) (fits : i * 512 + 512 ≤ length t) where
+  enough : i * 512 + length r ≤ length t
+  enough = rw full fits
+
+  -- a record that is put at place i stands there
+  pub record-here : part (i * 512) 512 (patch t (i * 512) r) ≡ r
+  record-here = ap (λ (n : ℕ). part (i * 512) n (patch t (i * 512) r)) (sym full) ∙ part-same t (i * 512) r enough
+
+  apart : (j : ℕ) → (i ≡ j → ⊥) → (b c : Bool) → ltb j i ≡ b → ltb i j ≡ c → (j * 512 + 512 ≤ i * 512) ⊎ (i * 512 + length r ≤ j * 512)
+  apart j ne true c e f = let h : j < i = ltb-true j i e in inl (omega arith)
+  apart j ne false true e f = let h : i < j = ltb-true i j f in inr (omega arith)
+  apart j ne false false e f =
+      let h : i ≤ j = ltb-false j i e in
+      let k : j ≤ i = ltb-false i j f in
+      absurd (ne (omega arith))
+
+  -- and every other record is as it was
+  pub record-other : (j : ℕ) → (i ≡ j → ⊥) → part (j * 512) 512 (patch t (i * 512) r) ≡ part (j * 512) 512 t
+  record-other j ne = part-outside t (i * 512) r enough (j * 512) 512 (apart j ne (ltb j i) (ltb i j) refl refl)
+
+  pub record-length : length (patch t (i * 512) r) ≡ length t
+  record-length = length-patch t (i * 512) r enough
