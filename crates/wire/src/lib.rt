@@ -21,10 +21,10 @@ pub fn same20(a: [u8; 20], b: [u8; 20]) -> bool
     ensures { λ r. ⌜ r ≡ same a b ⌝ }
 {
     let mut different: u8 = 0;
-    let mut i = 0;
-    while i < 20 {
-        different = different | (a[i] ^ b[i]);
-        i += 1;
+    let mut seen = 0;
+    while seen < 20 {
+        different = different | (a[seen] ^ b[seen]);
+        seen += 1;
     }
     different == 0
 }

@@ -6,55 +6,40 @@ use Rattle.calls.specs.BuildLaws.{build-length, build-unit, build-method
 use borrow.Author.Needs.{needs}
 use Rattle.calls.proofs.build.Statement.{statement}
 use Rattle.calls.proofs.build.Tie as tie
-use Rattle.calls.proofs.build.Reads as reads
-use Rattle.calls.proofs.build.Lts as lts
-use Rattle.units.proofs.write_built.Reads as write-built-reads
 
--- src/lib.rt:20:9
 returns : tie.Need-returns
 returns c = build-length _ _ _ _ _ _ _ (c .if1 .taken)
 
--- src/lib.rt:24:9
 returns-2 : tie.Need-returns-2
 returns-2 c = build-unit _ _ _ _ _ _ _ (c .before .if1 .left) (c .if2 .taken)
 
--- src/lib.rt:27:9
 returns-3 : tie.Need-returns-3
 returns-3 c = build-method _ _ _ _ _ _ _ (c .before .before .if1 .left) (c .before .if2 .left) (c .if3 .taken)
 
--- src/lib.rt:32:13
 cast-a : tie.Need-cast-a
 cast-a c = search needs
 
--- src/lib.rt:32:13
 mul-a : tie.Need-mul-a
 mul-a c = search needs
 
--- src/lib.rt:33:13
 add-e : tie.Need-add-e
 add-e c = search needs
 
--- src/lib.rt:34:24
 sub-write-built : tie.Need-sub-write-built
 sub-write-built c = search needs
 
--- src/lib.rt:34:24
 part-write-built-start : tie.Need-part-write-built-start
 part-write-built-start c = search needs
 
--- src/lib.rt:34:24
 part-write-built-end : tie.Need-part-write-built-end
 part-write-built-end c = search needs
 
--- src/lib.rt:34:5
 write-built-requires : tie.Need-write-built-requires
 write-built-requires c κs = search needs
 
--- src/lib.rt:8:1
 same-length : tie.Need-same-length
 same-length c = search needs
 
--- src/lib.rt:8:1
 returns-4 : tie.Need-returns-4
 returns-4 c =
     let c₁ = c .before .before .before .before .before .before .before in

@@ -3,23 +3,16 @@ use Rattle.calls.specs.SlotsLaws.{reset-length, reset-good}
 use borrow.Author.Needs.{needs}
 use Rattle.calls.proofs.reset.Statement.{statement}
 use Rattle.calls.proofs.reset.Tie as tie
-use Rattle.calls.proofs.reset.Reads as reads
-use Rattle.calls.proofs.reset.Lts as lts
-use Rattle.slots.proofs.free_all.Reads as free-all-reads
 
--- src/lib.rt:64:9
 returns : tie.Need-returns
 returns c = reset-length _ (c .if1 .taken)
 
--- src/lib.rt:66:5
 free-all-requires : tie.Need-free-all-requires
 free-all-requires c κs = search needs
 
--- src/lib.rt:60:1
 same-length : tie.Need-same-length
 same-length c = search needs
 
--- src/lib.rt:60:1
 returns-2 : tie.Need-returns-2
 returns-2 c = reset-good _ _ (c .before .before .before .before .if1 .left) (c .before .before .free-all .ensures)
 

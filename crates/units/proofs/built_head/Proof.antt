@@ -5,66 +5,49 @@ use Rattle.units.specs.Unit.{builtHead}
 use borrow.Author.Needs.{needs}
 use Rattle.units.proofs.built_head.Statement.{statement}
 use Rattle.units.proofs.built_head.Tie as tie
-use Rattle.units.proofs.built_head.Reads as reads
-use Rattle.units.proofs.built_head.Lts as lts
 
--- src/lib.rt:92:9
 cast-t8 : tie.Need-cast-t8
 cast-t8 c = search needs
 
--- src/lib.rt:93:9
 cast-t10 : tie.Need-cast-t10
 cast-t10 c = search needs
 
--- src/lib.rt:94:9
 cast-t13 : tie.Need-cast-t13
 cast-t13 c = search needs
 
--- src/lib.rt:95:9
 cast-t15 : tie.Need-cast-t15
 cast-t15 c = search needs
 
--- src/lib.rt:96:9
 cast-t18 : tie.Need-cast-t18
 cast-t18 c = search needs
 
--- src/lib.rt:97:9
 cast-t20 : tie.Need-cast-t20
 cast-t20 c = search needs
 
--- src/lib.rt:98:9
 cast-t25 : tie.Need-cast-t25
 cast-t25 c = search needs
 
--- src/lib.rt:99:9
 cast-t29 : tie.Need-cast-t29
 cast-t29 c = search needs
 
--- src/lib.rt:100:9
 cast-t32 : tie.Need-cast-t32
 cast-t32 c = search needs
 
--- src/lib.rt:101:9
 cast-t34 : tie.Need-cast-t34
 cast-t34 c = search needs
 
--- src/lib.rt:102:9
 cast-t39 : tie.Need-cast-t39
 cast-t39 c = search needs
 
--- src/lib.rt:103:9
 cast-t43 : tie.Need-cast-t43
 cast-t43 c = search needs
 
--- src/lib.rt:104:9
 cast-t46 : tie.Need-cast-t46
 cast-t46 c = search needs
 
--- src/lib.rt:105:9
 cast-t48 : tie.Need-cast-t48
 cast-t48 c = search needs
 
--- src/lib.rt:84:1
 returns : tie.Need-returns
 unfolding builtHead bytesOf
 returns c = refl

@@ -7,62 +7,43 @@ use Rattle.units.specs.BuiltLaws.{built-steps}
 use borrow.Author.Needs.{needs}
 use Rattle.units.proofs.write_built.Statement.{statement}
 use Rattle.units.proofs.write_built.Tie as tie
-use Rattle.units.proofs.write_built.Reads as reads
-use Rattle.units.proofs.write_built.Lts as lts
-use Rattle.seal.proofs.clear.Reads as clear-reads
-use Rattle.seal.proofs.seal_record.Reads as seal-record-reads
-use Rattle.units.proofs.built_head.Reads as built-head-reads
-use Rattle.wire.proofs.put.Reads as put-reads
 
--- src/lib.rt:120:16
 built-head-requires : tie.Need-built-head-requires
 built-head-requires c κs = search needs
 
--- src/lib.rt:121:5
 clear-requires : tie.Need-clear-requires
 clear-requires c κs = search needs
 
--- src/lib.rt:122:23
 slice-aggregate-put : tie.Need-slice-aggregate-put
 slice-aggregate-put c = search needs
 
--- src/lib.rt:122:5
 put-requires : tie.Need-put-requires
 put-requires c κs = search needs
 
--- src/lib.rt:123:24
 slice-aggregate-put-2 : tie.Need-slice-aggregate-put-2
 slice-aggregate-put-2 c = search needs
 
--- src/lib.rt:123:5
 put-requires-2 : tie.Need-put-requires-2
 put-requires-2 c κs = search needs
 
--- src/lib.rt:124:24
 slice-aggregate-put-3 : tie.Need-slice-aggregate-put-3
 slice-aggregate-put-3 c = search needs
 
--- src/lib.rt:124:5
 put-requires-3 : tie.Need-put-requires-3
 put-requires-3 c κs = search needs
 
--- src/lib.rt:125:24
 slice-aggregate-put-4 : tie.Need-slice-aggregate-put-4
 slice-aggregate-put-4 c = search needs
 
--- src/lib.rt:125:5
 put-requires-4 : tie.Need-put-requires-4
 put-requires-4 c κs = search needs
 
--- src/lib.rt:126:5
 seal-record-requires : tie.Need-seal-record-requires
 seal-record-requires c κs = search needs
 
--- src/lib.rt:108:1
 same-length : tie.Need-same-length
 same-length c = search needs
 
--- src/lib.rt:108:1
 -- the arrays have the lengths that their types say
 id-length : (c : tie.Start) → length (c .args .t5) ≡ 16
 id-length c = search needs

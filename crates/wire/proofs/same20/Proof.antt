@@ -9,10 +9,10 @@ use Rattle.wire.proofs.same20.Statement.{statement}
 use Rattle.wire.proofs.same20.Tie as tie
 
 abbrev Inv-loop : tie.InvT-loop
-Inv-loop a b different₀ i₀ different i = (i ≤ 20) × (length a ≡ 20) × (length b ≡ 20) × Differs a b i different
+Inv-loop a b different₀ seen₀ different seen = (seen ≤ 20) × (length a ≡ 20) × (length b ≡ 20) × Differs a b seen different
 
 abbrev μ-loop : tie.MeasureT-loop
-μ-loop a b different₀ i₀ different i = 20 - i
+μ-loop a b different₀ seen₀ different seen = 20 - seen
 
 loop-holds : tie.Need-loop-holds Inv-loop μ-loop
 loop-holds c = (omega arith, search needs, search needs, differs-zero _ _)
@@ -23,8 +23,8 @@ array-read-different c = search needs
 array-read-different-2 : tie.Need-array-read-different-2 Inv-loop μ-loop
 array-read-different-2 c = search needs
 
-add-i : tie.Need-add-i Inv-loop μ-loop
-add-i c = search needs
+add-seen : tie.Need-add-seen Inv-loop μ-loop
+add-seen c = search needs
 
 loop-less : tie.Need-loop-less Inv-loop μ-loop
 loop-less c = search needs
@@ -32,12 +32,12 @@ loop-less c = search needs
 loop-again : tie.Need-loop-again Inv-loop μ-loop
 loop-again c =
     let l = c .before .loop in
-    (omega arith, l .inv .1, l .inv .2, differs-more _ _ (l .i) (l .different) (omega arith) (omega arith) (l .inv .3))
+    (omega arith, l .inv .1, l .inv .2, differs-more _ _ (l .seen) (l .different) (omega arith) (omega arith) (l .inv .3))
 
 returns : tie.Need-returns Inv-loop μ-loop
 returns c =
     let l = c .before .loop in
-    differs-done _ _ (l .i) (l .different) (omega arith) (omega arith) (l .inv .3)
+    differs-done _ _ (l .seen) (l .different) (omega arith) (omega arith) (l .inv .3)
 
 pub same20-spec : {M : Type 1} → statement M
 same20-spec =
@@ -48,7 +48,7 @@ same20-spec =
     loop-holds
     array-read-different
     array-read-different-2
-    add-i
+    add-seen
     loop-less
     loop-again
     returns)

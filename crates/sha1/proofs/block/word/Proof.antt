@@ -7,84 +7,61 @@ use Rattle.sha1.specs.Sha1Laws.{early-word, late-word}
 use borrow.Author.Needs.{needs}
 use Rattle.sha1.proofs.block.word.Statement.{statement}
 use Rattle.sha1.proofs.block.word.Tie as tie
-use Rattle.sha1.proofs.block.word.Reads as reads
-use Rattle.sha1.proofs.block.word.Lts as lts
-use Rattle.words.proofs.rotl.Reads as rotl-reads
-use Rattle.words.proofs.xor4.Reads as xor4-reads
 
--- src/block.rt:88:16
 mul-result : tie.Need-mul-result
 mul-result c = search needs
 
--- src/block.rt:88:16
 element-copy-out-result : tie.Need-element-copy-out-result
 element-copy-out-result c = search needs
 
--- src/block.rt:88:9
 returns : tie.Need-returns
 returns c = λ b k. early-word _ b (c .before .before .args .t) k (c .before .if1 .taken)
 
--- src/block.rt:90:31
 sub-xor4 : tie.Need-sub-xor4
 sub-xor4 c = search needs
 
--- src/block.rt:90:29
 mul-xor4 : tie.Need-mul-xor4
 mul-xor4 c = search needs
 
--- src/block.rt:90:29
 element-copy-out-xor4 : tie.Need-element-copy-out-xor4
 element-copy-out-xor4 c = search needs
 
--- src/block.rt:90:41
 sub-xor4-2 : tie.Need-sub-xor4-2
 sub-xor4-2 c = search needs
 
--- src/block.rt:90:39
 mul-xor4-2 : tie.Need-mul-xor4-2
 mul-xor4-2 c = search needs
 
--- src/block.rt:90:39
 element-copy-out-xor4-2 : tie.Need-element-copy-out-xor4-2
 element-copy-out-xor4-2 c = search needs
 
--- src/block.rt:90:51
 sub-xor4-3 : tie.Need-sub-xor4-3
 sub-xor4-3 c = search needs
 
--- src/block.rt:90:49
 mul-xor4-3 : tie.Need-mul-xor4-3
 mul-xor4-3 c = search needs
 
--- src/block.rt:90:49
 element-copy-out-xor4-3 : tie.Need-element-copy-out-xor4-3
 element-copy-out-xor4-3 c = search needs
 
--- src/block.rt:90:60
 mul-xor4-4 : tie.Need-mul-xor4-4
 mul-xor4-4 c = search needs
 
--- src/block.rt:90:60
 element-copy-out-xor4-4 : tie.Need-element-copy-out-xor4-4
 element-copy-out-xor4-4 c = search needs
 
--- src/block.rt:90:9
 xor4-requires : tie.Need-xor4-requires
 xor4-requires c κs = search needs
 
--- src/block.rt:91:9
 rotl-requires : tie.Need-rotl-requires
 rotl-requires c κs = search needs
 
--- src/block.rt:92:5
 mul-w : tie.Need-mul-w
 mul-w c = search needs
 
--- src/block.rt:92:5
 element-write-w : tie.Need-element-write-w
 element-write-w c = search needs
 
--- src/block.rt:83:1
 returns-2 : tie.Need-returns-2
 unfolding mixed
 returns-2 c =
