@@ -1,13 +1,13 @@
 -- Laws of a parked command: the record of an open slot is sound, and gives back the unit, the command and the token put in.
-use mathlib.Core.Path.{_≡_, refl, _∙_, sym, ap, ap₂}
+use mathlib.Core.Path.{_≡_, refl, _∙_, ap, ap₂}
 use mathlib.Core.Logic.{_⊎_, inl, inr}
 use mathlib.Core.Bool.{Bool, true, false}
 use mathlib.Core.List.{List}
-use Prim.Native.Nat.{ℕ, _+_, _*_, _-_, _≤_, _<_}
+use Prim.Native.Nat.{ℕ, _+_, _-_, _≤_, _<_}
 use native.Mathlib.Omega.{arith}
 use native.Mathlib.Nat.{zero-add}
 use lib.ListN.{length, getD}
-use borrow.Author.Tests.{eq-eqb, le-leb}
+use borrow.Author.Tests.{le-leb}
 use Rattle.wire.specs.Bytes.{part, number, bytesOf, zeros, patch}
 use Rattle.wire.specs.PatchLaws.{length-patch, part-outside, part-same}
 use Rattle.wire.specs.NumberLaws.{number-outside, number-inside, number-bytes, number-two}
@@ -17,8 +17,7 @@ use Rattle.seal.specs.SealLaws.{seal-length, seal-part, seal-number, seal-zeros
 use Rattle.seal.specs.BlankLaws.{blank-length}
 use Rattle.model.specs.Codes.{dataOut, legalLen}
 use Rattle.model.specs.CodeLaws.{legal-small, legal-some}
-use Rattle.slots.specs.declared.SlotState.{SlotState}
-use Rattle.slots.specs.declared.SlotState.the-variants.{Free, Open, Unsound}
+use Rattle.slots.specs.declared.SlotState.the-variants.{Open}
 use Rattle.slots.specs.Slot.{stateNumber, slotUnit, commandLength, tokenLength, slotCommand, slotToken, openShape, slotStateOf, openHead, openRecord, slotAt, parked}
 use Rattle.slots.specs.TableLaws.{put-length, put-here, put-other}
 

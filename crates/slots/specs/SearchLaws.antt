@@ -33,7 +33,7 @@ free-none n i slots z = rw z
 -- ---- the result
 
 -- one of the n slots from i on, free, and none before it
-pub record Lowest (n i : ℕ) (slots : List ℕ) (s : ℕ) : Type 0 where
+record Lowest (n i : ℕ) (slots : List ℕ) (s : ℕ) : Type 0 where
   pub from : i ≤ s
   pub below : s < i + n
   pub hit : isFree (slotStateOf (slotAt s slots)) ≡ true
@@ -50,7 +50,8 @@ first-none true s f e = (cc, cc)
 first-none false s f e = (refl, e)
 
 -- what is known of i and of the slots behind it
-behind : (i : ℕ) (slots : List ℕ) (P : ℕ → Type 0) → isFree (slotStateOf (slotAt i slots)) ≡ false → ((j : ℕ) → i + 1 ≤ j → P j → isFree (slotStateOf (slotAt j slots)) ≡ false)
+behind : (i : ℕ) (slots : List ℕ) (P : ℕ → Type 0) → isFree (slotStateOf (slotAt i slots)) ≡ false
+    → ((j : ℕ) → i + 1 ≤ j → P j → isFree (slotStateOf (slotAt j slots)) ≡ false)
     → (j : ℕ) → i ≤ j → P j → isFree (slotStateOf (slotAt j slots)) ≡ false
 behind i slots P b f j h k = ⊎-elim (λ e. ap (λ (x : ℕ). isFree (slotStateOf (slotAt x slots))) (sym e) ∙ b) (λ g. f j (omega arith) k) (eq-or-lt-of-le h)
 

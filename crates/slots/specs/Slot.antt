@@ -1,6 +1,6 @@
 -- Slot records (document 01, "Records of 512 bytes", Slot): fields, soundness, an open one, and the slot table.
 use mathlib.Core.Bool.{Bool, true, false}
-use mathlib.Core.List.{List, [], _∷_, _++_}
+use mathlib.Core.List.{List, _++_}
 use Prim.Native.Nat.{ℕ, zero, suc, _+_, _*_, _-_}
 use lib.Dec.{eqb, leb}
 use lib.ListN.{length, getD}
@@ -8,7 +8,6 @@ use Rattle.wire.specs.Bytes.{both, part, number, bytesOf, zeros, patch}
 use Rattle.seal.specs.Seal.{checked, seal, blank, blankRecord}
 use Rattle.model.specs.Choice.{pick}
 use Rattle.model.specs.Codes.{dataOut, legalLen}
-use Rattle.model.specs.declared.SlotNo.{SlotNo}
 use Rattle.slots.specs.declared.SlotState.{SlotState}
 use Rattle.slots.specs.declared.SlotState.the-variants.{Free, Open, Unsound}
 use Rattle.slots.specs.declared.Found.{Found}

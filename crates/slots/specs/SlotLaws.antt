@@ -1,4 +1,5 @@
--- Laws of a slot's record: it is free exactly where it is the blank record, and the tests in the code's order give its state.
+-- Laws of a slot's record: it is free exactly where it is the blank record; the tests in the code's order give its state; what an open
+-- one holds; and the steps that write one.
 use mathlib.Core.Path.{_≡_, refl, _∙_, sym, ap}
 use mathlib.Core.Bool.{Bool, true, false}
 use mathlib.Core.List.{List}

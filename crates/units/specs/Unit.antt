@@ -94,6 +94,13 @@ unitState units u = unitStateOf u (unitAt u units)
 unfoldable pub keySetOf : List ℕ → ℕ → List ℕ
 keySetOf units u = unitAt u units
 
+-- is version v's working key valid in unit u's key set, and the key
+unfoldable pub validKey : List ℕ → ℕ → ℕ → Bool
+validKey units u v = isValid v (keySetOf units u)
+
+unfoldable pub workingKeyOf : List ℕ → ℕ → ℕ → List ℕ
+workingKeyOf units u v = workingKey v (keySetOf units u)
+
 -- ---- a record as it is built: mask 0, step 0, the rest as asked, no next pair and no working key
 
 unfoldable pub builtHead : ℕ → ℕ → ℕ → List ℕ

@@ -1,10 +1,11 @@
 // Unit records: what makes one sound, and how one is written when it is built.
+use model::KeyVersion;
 use model::UnitNo;
 ghost use mathlib.Core.Path.{_≡_};
 ghost use Prim.Native.Nat.{_≤_, _<_, _/_, _%_, _^_};
 ghost use lib.Dec.{eqb};
 ghost use lib.ListN.{length};
-ghost use Rattle.units.specs.Unit.{keysZero, usedShape, unitStateOf, unitState, builtHead, builtRecord};
+ghost use Rattle.units.specs.Unit.{keysZero, usedShape, unitStateOf, unitState, validKey, workingKeyOf, builtHead, builtRecord};
 
 pub enum UnitState {
     Unused,
@@ -78,6 +79,28 @@ pub fn unit_state(units: &[u8], unit: UnitNo) -> UnitState
     let a = place as usize * 512;
     let e = a + 512;
     state_of(&units[a..e], place)
+}
+
+// A working key of a unit's key set, and whether it is valid.
+pub struct Key {
+    pub valid: bool,
+    pub bytes: [u8; 20],
+}
+
+// The working key of a version.
+pub fn working_key(units: &[u8], unit: UnitNo, version: KeyVersion) -> Key
+    requires { ⌜ (length (now units) ≡ 4096) × (unit .0 < 8) × (version .0 < 16) ⌝ }
+    ensures { λ r. ⌜ (r .valid ≡ validKey (now (units .entry)) (unit .0) (version .0)) × (r .bytes ≡ workingKeyOf (now (units .entry)) (unit .0) (version .0)) ⌝ }
+{
+    let place = unit.0;
+    let v = version.0;
+    let a = place as usize * 512;
+    let e = a + 512;
+    let rec = &units[a..e];
+    let mask = wire::be16(rec, 6);
+    let valid = has_bit(mask, v);
+    let bytes = wire::bytes20(rec, 112 + 20 * (v as usize));
+    Key { valid, bytes }
 }
 
 // The first sixteen bytes of a record as it is built.
