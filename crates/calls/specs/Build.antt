@@ -4,8 +4,8 @@ use mathlib.Core.List.{List}
 use Prim.Native.Nat.{ℕ, _*_}
 use lib.Dec.{eqb, leb}
 use lib.ListN.{length}
-use Rattle.wire.specs.Bytes.{both, patch}
-use Rattle.model.specs.Choice.{pick}
+use Rattle.choice.specs.Choice.{both, pick}
+use Rattle.wire.specs.Bytes.{patch}
 use Rattle.model.specs.declared.Answer.the-variants.{Good, H1, H5}
 use Rattle.units.specs.Unit.{builtRecord}
 use Rattle.calls.specs.Outcome.{Out, out}

@@ -6,9 +6,9 @@ use native.Mathlib.Omega.{arith}
 use lib.Dec.{eqb, leb}
 use lib.ListN.{length}
 use borrow.Author.Tests.{eq-eqb, ne-eqb, le-leb, lt-leb}
-use Rattle.wire.specs.Bytes.{both, part, patch}
+use Rattle.choice.specs.Choice.{both, pick}
+use Rattle.wire.specs.Bytes.{part, patch}
 use Rattle.wire.specs.PatchLaws.{record-here, record-other, record-length}
-use Rattle.model.specs.Choice.{pick}
 use Rattle.model.specs.declared.Answer.the-variants.{Good, H1, H5}
 use Rattle.units.specs.declared.UnitState.{UnitState}
 use Rattle.units.specs.declared.UnitState.the-variants.{Used}

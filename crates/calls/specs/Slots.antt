@@ -4,8 +4,7 @@ use mathlib.Core.List.{List}
 use Prim.Native.Nat.{ℕ}
 use lib.Dec.{eqb, leb}
 use lib.ListN.{length}
-use Rattle.wire.specs.Bytes.{both}
-use Rattle.model.specs.Choice.{pick}
+use Rattle.choice.specs.Choice.{both, pick}
 use Rattle.model.specs.declared.Answer.the-variants.{Good, H1, H3}
 use Rattle.slots.specs.Slot.{slotStateOf, slotAt, isOpen, freed, allFreed}
 use Rattle.calls.specs.Outcome.{Out, out}

@@ -7,9 +7,8 @@ use native.Mathlib.Omega.{arith}
 use lib.Dec.{eqb, leb}
 use lib.ListN.{length}
 use borrow.Author.Tests.{eq-eqb, ne-eqb, le-leb, lt-leb}
-use Rattle.wire.specs.Bytes.{both}
+use Rattle.choice.specs.Choice.{both, pick}
 use Rattle.seal.specs.Seal.{blankRecord}
-use Rattle.model.specs.Choice.{pick}
 use Rattle.model.specs.declared.Answer.the-variants.{Good, H1, H3}
 use Rattle.slots.specs.declared.SlotState.{SlotState}
 use Rattle.slots.specs.declared.SlotState.the-variants.{Free}

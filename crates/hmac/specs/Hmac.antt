@@ -5,6 +5,7 @@ use mathlib.Core.List.{List, _++_, map}
 use lib.ListN.{length, replicate}
 use lib.Bits.{bitXor}
 use lib.Dec.{leb}
+use Rattle.choice.specs.Choice.{pick}
 use Rattle.sha1.specs.Sha1 as sha1
 
 -- a hash: B, the bytes of its blocks; H, its digest of a message; and how many blocks that digest runs
@@ -18,10 +19,6 @@ ipad = 0x36
 
 abbrev pub opad : ℕ
 opad = 0x5c
-
-abbrev pub pick : {A : Type 0} → Bool → A → A → A
-pick true a b = a
-pick false a b = b
 
 -- a key longer than B bytes is hashed first
 unfoldable pub shortened : Hash → List ℕ → List ℕ

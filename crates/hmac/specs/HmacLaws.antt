@@ -9,9 +9,10 @@ use lib.ListN.{length, replicate, length-append, length-map, length-replicate, r
 use lib.Bits.{bitXor}
 use lib.Dec.{leb}
 use borrow.Author.Tests.{le-leb, lt-leb, leb-true, leb-false}
+use Rattle.choice.specs.Choice.{pick}
 use Rattle.md.specs.Padding.{blockCount}
 use Rattle.sha1.specs.Sha1Laws.{sha1-length, sha1-blocks}
-use Rattle.hmac.specs.Hmac.{Hash, pick, ipad, opad, shortened, extended, keyBlock, masked, innerText, outerText, hmac, keyBlocks, macBlocks, bySha1}
+use Rattle.hmac.specs.Hmac.{Hash, ipad, opad, shortened, extended, keyBlock, masked, innerText, outerText, hmac, keyBlocks, macBlocks, bySha1}
 
 -- what a hash owes to the laws below: its digests have `size` bytes, which fit a block, and its count goes by the message's length
 pub record Lawful (h : Hash) (size : ℕ) (count : ℕ → ℕ) : Type 0 where

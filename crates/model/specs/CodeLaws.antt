@@ -5,8 +5,9 @@ use mathlib.Core.Bool.{Bool, true, false}
 use native.Mathlib.Omega.{arith}
 use lib.Dec.{eqb, leb, lit≤}
 use borrow.Author.Tests.{eqb-true, le-leb, lt-leb}
-use Rattle.model.specs.Choice.{pick, both, either}
-use Rattle.model.specs.ChoiceLaws.{pick-holds, all-at}
+use Rattle.choice.specs.Choice.{both, either, pick}
+use Rattle.choice.specs.ChoiceLaws.{pick-holds}
+use Rattle.model.specs.AmongLaws.{all-at}
 use Rattle.model.specs.Rows.{rows, listed}
 use Rattle.model.specs.Codes.{within, cdbLen, legalLen, dataOutCodes, dataOut}
 

@@ -3,7 +3,8 @@ use Prim.Native.Nat.{ℕ, _+_}
 use mathlib.Core.Bool.{Bool, false}
 use mathlib.Core.List.{List, [], _∷_}
 use lib.Dec.{eqb, leb}
-use Rattle.model.specs.Choice.{pick, both, either, isIn}
+use Rattle.choice.specs.Choice.{both, either, pick}
+use Rattle.model.specs.Among.{isIn}
 
 -- is the code in the range, both ends in it?
 abbrev pub within : ℕ → ℕ → ℕ → Bool

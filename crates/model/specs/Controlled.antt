@@ -3,7 +3,7 @@ use Prim.Native.Nat.{ℕ, _/_, _%_}
 use mathlib.Core.Bool.{Bool}
 use mathlib.Core.List.{List, [], _∷_, _++_}
 use lib.Dec.{eqb, ltb}
-use Rattle.model.specs.Choice.{pick, both, either}
+use Rattle.choice.specs.Choice.{both, either, pick}
 use Rattle.model.specs.Rows.{Needs, isOpen, bits, master, Row, rows}
 
 -- does the row come before the other, by code and then page?

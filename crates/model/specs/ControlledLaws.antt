@@ -3,7 +3,7 @@ use mathlib.Core.Path.{_≡_, refl}
 use mathlib.Core.Bool.{Bool, true}
 use mathlib.Core.List.{List, [], _∷_}
 use lib.ListN.{length}
-use Rattle.model.specs.Choice.{both}
+use Rattle.choice.specs.Choice.{both}
 use Rattle.model.specs.Rows.{Row, rows}
 use Rattle.model.specs.Controlled.{precedes, ascending, controlled}
 

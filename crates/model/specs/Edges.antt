@@ -2,7 +2,7 @@
 use mathlib.Core.Path.{_≡_, refl}
 use mathlib.Core.Bool.{Bool, true, false}
 use mathlib.Core.List.{List, [], _∷_}
-use Rattle.model.specs.Choice.{both}
+use Rattle.choice.specs.Choice.{both}
 use Rattle.model.specs.Codes.{within, cdbLen, legalLen}
 use Rattle.model.specs.Rows.{rows, listed}
 

@@ -1,6 +1,6 @@
 -- What the crate's contracts cite, by subject, and beside each the laws of it.
-pub mod Choice
-pub mod ChoiceLaws
+pub mod Among
+pub mod AmongLaws
 -- answers
 pub mod Paper
 pub mod PaperLaws

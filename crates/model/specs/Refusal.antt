@@ -2,7 +2,8 @@
 use Prim.Native.Nat.{ℕ}
 use mathlib.Core.List.{[], _∷_}
 use lib.Dec.{eqb}
-use Rattle.model.specs.Choice.{pick, isIn}
+use Rattle.choice.specs.Choice.{pick}
+use Rattle.model.specs.Among.{isIn}
 use Rattle.model.specs.declared.Answer.{Answer}
 use Rattle.model.specs.declared.Answer.the-variants.{Check}
 

@@ -7,8 +7,9 @@ use native.Mathlib.Omega.{arith}
 use lib.Dec.{eqb, ltb}
 use lib.ListN.{length}
 use borrow.Author.Tests.{ltb-true, eqb-true, ne-eqb}
-use Rattle.model.specs.Choice.{pick, both, either, isIn}
-use Rattle.model.specs.ChoiceLaws.{both-true, either-false}
+use Rattle.choice.specs.Choice.{both, either, pick}
+use Rattle.choice.specs.ChoiceLaws.{both-true, either-false}
+use Rattle.model.specs.Among.{isIn}
 use Rattle.model.specs.Rows.{Needs, isOpen, bits, master, Row, rows, byPage, listed, entryFor, entryIn, entryOf, needFor, needIn, needOf}
 use Rattle.model.specs.declared.Need.{Need}
 use Rattle.model.specs.declared.Need.the-variants.{Unknown, Open, Bits}

@@ -3,7 +3,8 @@ use Prim.Native.Nat.{ℕ}
 use mathlib.Core.Bool.{Bool, not}
 use mathlib.Core.List.{List, [], _∷_, _++_, map}
 use lib.Dec.{eqb}
-use Rattle.model.specs.Choice.{pick, both, either, isIn}
+use Rattle.choice.specs.Choice.{both, either, pick}
+use Rattle.model.specs.Among.{isIn}
 use Rattle.model.specs.declared.Need.{Need}
 use Rattle.model.specs.declared.Need.the-variants.{Unknown, Open, Bits, Master}
 

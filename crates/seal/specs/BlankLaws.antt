@@ -6,7 +6,9 @@ use Prim.Native.Nat.{ℕ, _+_, _≤_}
 use native.Mathlib.Omega.{arith}
 use lib.ListN.{length, take, drop, replicate, length-replicate, length-drop, take-append-drop, length-take}
 use lib.Seq.{take-all, length-take-le}
-use Rattle.wire.specs.Bytes.{both, same, part, zeros, patch}
+use Rattle.choice.specs.Choice.{both}
+use Rattle.choice.specs.ChoiceLaws.{both-true}
+use Rattle.wire.specs.Bytes.{same, part, zeros, patch}
 use Rattle.wire.specs.SameLaws.{same-true, same-refl, same-is}
 use Rattle.wire.specs.ZeroLaws.{zeros-part, zeros-replicate}
 use Rattle.words.specs.Words.{bits, and32, or32, xor32, not32, add32, rotl, ch, parity, maj, be32, wordAt, bytes32}
@@ -78,10 +80,6 @@ blank-sound l full k z =
     let front : take 492 l ≡ replicate 492 0 = zeros-part 492 0 l (omega arith) z in
     blank-only l full z (same-true (part 492 20 l) (sha1 (take 492 l)) k ∙ ap sha1 front ∙ computed)
 
-both-parts : (a b : Bool) → both a b ≡ true → (a ≡ true) × (b ≡ true)
-both-parts true b e = (refl, e)
-both-parts false b e = let z : true ≡ false = sym e in (sym z, cc)
-
 record-check : part 492 20 blankRecord ≡ blankCheck
 record-check = rw blank-parts refl
 
@@ -89,7 +87,7 @@ record-check = rw blank-parts refl
 pub blank-test : (l : List ℕ) → length l ≡ 512 → both (zeros 492 0 l) (same (part 492 20 l) blankCheck) ≡ same l blankRecord
 blank-test l full =
     same-is (both (zeros 492 0 l) (same (part 492 20 l) blankCheck)) l blankRecord
-    (λ e. let p = both-parts (zeros 492 0 l) (same (part 492 20 l) blankCheck) e in blank-only l full (p .0) (same-true (part 492 20 l) blankCheck (p .1)))
+    (λ e. let p = both-true (zeros 492 0 l) (same (part 492 20 l) blankCheck) e in blank-only l full (p .0) (same-true (part 492 20 l) blankCheck (p .1)))
     (λ e. rw (e, record-zeros, record-check) (same-refl blankCheck))
 
 -- zeros with the constant behind them

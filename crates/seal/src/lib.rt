@@ -71,7 +71,7 @@ pub fn is_blank(rec: &[u8]) -> bool
 {
     let empty = wire::are_zeros(rec, 0, 492);
     let right = wire::same20(wire::bytes20(rec, 492), blank_check());
-    wire::and(empty, right)
+    choice::and(empty, right)
 }
 
 // Zeros all over.

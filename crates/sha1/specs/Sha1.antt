@@ -4,14 +4,11 @@ use mathlib.Core.Bool.{Bool, true, false}
 use mathlib.Core.List.{List, [], _∷_, _++_}
 use lib.ListN.{length, getD}
 use lib.Dec.{ltb}
+use Rattle.choice.specs.Choice.{pick}
 use Rattle.words.specs.Words.{rotl, xor32, add32, ch, parity, maj, wordAt, bytes32}
 use Rattle.md.specs.Padding.{padded}
 use Rattle.md.specs.Chain.{absorb}
 use Rattle.sha1.specs.declared.block.State.{State}
-
-abbrev pub pick : Bool → ℕ → ℕ → ℕ
-pick true a b = a
-pick false a b = b
 
 -- 4.1.1: f t (x, y, z) is Ch for 0 ≤ t ≤ 19, Parity for 20 ≤ t ≤ 39, Maj for 40 ≤ t ≤ 59, Parity for 60 ≤ t ≤ 79
 unfoldable pub f : ℕ → ℕ → ℕ → ℕ → ℕ

@@ -8,12 +8,13 @@ use native.Mathlib.Nat.{add-suc, add-zero, add-assoc}
 use lib.ListN.{length, getD, take, set, length-append, length-set}
 use lib.Seq.{take-suc-set, take-all, take-take, take-append-le, take-set-le, getD-take, getD-at}
 use borrow.Author.Tests.{lt-ltb, le-ltb}
+use Rattle.choice.specs.Choice.{pick}
 use Rattle.words.specs.Words.{ch, parity, maj, wordAt, bytes32}
 use Rattle.md.specs.Padding.{padding, padded, blockCount}
 use Rattle.md.specs.PaddingLaws.{padded-blocks}
 use Rattle.sha1.specs.declared.block.State.{State}
 use Rattle.sha1.specs.declared.Running.{Running}
-use Rattle.sha1.specs.Sha1.{pick, f, K, mixed, W, schedule, turned, round, rounds, plus, compressed, initial, digestOf, blocks, sha1}
+use Rattle.sha1.specs.Sha1.{f, K, mixed, W, schedule, turned, round, rounds, plus, compressed, initial, digestOf, blocks, sha1}
 use Rattle.sha1.specs.Running.{Holds}
 use Rattle.sha1.specs.Begun.{Begun}
 

@@ -4,9 +4,9 @@ use mathlib.Core.List.{List, _++_}
 use Prim.Native.Nat.{ℕ, zero, suc, _+_, _*_, _-_}
 use lib.Dec.{eqb, leb}
 use lib.ListN.{length, getD}
-use Rattle.wire.specs.Bytes.{both, part, number, bytesOf, zeros, patch}
+use Rattle.choice.specs.Choice.{both, pick}
+use Rattle.wire.specs.Bytes.{part, number, bytesOf, zeros, patch}
 use Rattle.seal.specs.Seal.{checked, seal, blank, blankRecord}
-use Rattle.model.specs.Choice.{pick}
 use Rattle.model.specs.Codes.{dataOut, legalLen}
 use Rattle.slots.specs.declared.SlotState.{SlotState}
 use Rattle.slots.specs.declared.SlotState.the-variants.{Free, Open, Unsound}

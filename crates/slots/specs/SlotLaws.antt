@@ -6,11 +6,12 @@ use mathlib.Core.List.{List}
 use Prim.Native.Nat.{ℕ, _+_, _-_, _≤_}
 use lib.ListN.{length, replicate, getD}
 use borrow.Author.Tests.{eqb-true, leb-true}
-use Rattle.wire.specs.Bytes.{both, same, zeros, patch}
+use Rattle.choice.specs.Choice.{both, pick}
+use Rattle.choice.specs.ChoiceLaws.{both-true}
+use Rattle.wire.specs.Bytes.{same, zeros, patch}
 use Rattle.wire.specs.SameLaws.{same-true, same-refl, same-is}
 use Rattle.seal.specs.Seal.{checked, seal, blank, blankRecord}
 use Rattle.seal.specs.BlankLaws.{blank-sound, record-zeros, record-checked}
-use Rattle.model.specs.Choice.{pick}
 use Rattle.model.specs.Codes.{dataOut, legalLen}
 use Rattle.slots.specs.declared.SlotState.{SlotState}
 use Rattle.slots.specs.declared.SlotState.the-variants.{Free, Open, Unsound}
@@ -71,10 +72,6 @@ pub record Sound (l : List ℕ) : Type 0 where
   pub past-token : zeros (64 - tokenLength l) (108 + tokenLength l) l ≡ true
   pub unnamed : zeros 320 172 l ≡ true
 
-both-parts : (a b : Bool) → both a b ≡ true → (a ≡ true) × (b ≡ true)
-both-parts true b e = (refl, e)
-both-parts false b e = (e, cc)
-
 open-parts : (k z s : Bool) → stateBy k z s ≡ Open → (k ≡ true) × (s ≡ true)
 open-parts true true s e = (refl, cc)
 open-parts true false true e = (refl, refl)
@@ -85,14 +82,14 @@ pub open-sound : (l : List ℕ) → slotStateOf l ≡ Open → Sound l
 unfolding slotStateOf openShape
 open-sound l e =
     let p = open-parts (checked l) (zeros 492 0 l) (openShape l) e in
-    let p1 = both-parts _ _ (p .1) in
-    let p2 = both-parts _ _ (p1 .1) in
-    let p3 = both-parts _ _ (p2 .1) in
-    let p4 = both-parts _ _ (p3 .1) in
-    let p5 = both-parts _ _ (p4 .1) in
-    let p6 = both-parts _ _ (p5 .1) in
-    let token = both-parts _ _ (p3 .0) in
-    let command = both-parts _ _ (p4 .0) in
+    let p1 = both-true _ _ (p .1) in
+    let p2 = both-true _ _ (p1 .1) in
+    let p3 = both-true _ _ (p2 .1) in
+    let p4 = both-true _ _ (p3 .1) in
+    let p5 = both-true _ _ (p4 .1) in
+    let p6 = both-true _ _ (p5 .1) in
+    let token = both-true _ _ (p3 .0) in
+    let command = both-true _ _ (p4 .0) in
     record {
       check = p .0;
       state = eqb-true _ _ (p1 .0);

@@ -41,15 +41,15 @@ fn open_shape(rec: &[u8]) -> bool
     let code = wire::at(rec, 8);
     let state = wire::be16(rec, 0) == 1;
     let unit = wire::be16(rec, 2) <= 7;
-    let token = wire::and(16 <= m, m <= 64);
-    let command = wire::and(model::data_out(code), model::legal_len(code, n));
+    let token = choice::and(16 <= m, m <= 64);
+    let command = choice::and(model::data_out(code), model::legal_len(code, n));
     let after_command = zero_past(rec, 8, 100, n);
     let after_token = zero_past(rec, 108, 64, m);
     let unnamed = wire::are_zeros(rec, 172, 320);
-    let zeros = wire::and(after_command, wire::and(after_token, unnamed));
-    wire::and(
+    let zeros = choice::and(after_command, choice::and(after_token, unnamed));
+    choice::and(
         state,
-        wire::and(unit, wire::and(token, wire::and(command, zeros))),
+        choice::and(unit, choice::and(token, choice::and(command, zeros))),
     )
 }
 

@@ -10,7 +10,9 @@ use lib.ListN.{length, take, drop, getD, length-append}
 use native.Mathlib.Nat.{zero-add}
 use lib.Seq.{take-at, drop-at, drop-drop, take-all}
 use borrow.Author.Tests.{eq-eqb, ne-eqb, le-leb, eqb-true}
-use Rattle.wire.specs.Bytes.{both, either, part, number, bytesOf, zeros, patch}
+use Rattle.choice.specs.Choice.{both, either, pick}
+use Rattle.choice.specs.ChoiceLaws.{either-right}
+use Rattle.wire.specs.Bytes.{part, number, bytesOf, zeros, patch}
 use Rattle.wire.specs.PatchLaws.{length-patch, part-inside, patch-join}
 use Rattle.wire.specs.NumberLaws.{number-inside}
 use Rattle.wire.specs.ZeroLaws.{zeros-outside, zeros-within, number-zeros}
@@ -19,22 +21,18 @@ use Rattle.seal.specs.SealLaws.{seal-length, seal-part, seal-number, seal-zeros
 use Rattle.seal.specs.BlankLaws.{blank-length, blank-run}
 use Rattle.units.specs.declared.UnitState.{UnitState}
 use Rattle.units.specs.declared.UnitState.the-variants.{Unused, Used, Unsound}
-use Rattle.units.specs.Unit.{layout, unitNumber, method, mask, policyTag, step, identifier, authKey, genKey, nextPairZero, isValid, keysZero, unnamedZero, usedShape, pick, unitStateOf, builtHead, builtBody, builtRecord}
+use Rattle.units.specs.Unit.{layout, unitNumber, method, mask, policyTag, step, identifier, authKey, genKey, nextPairZero, isValid, keysZero, unnamedZero, usedShape, unitStateOf, builtHead, builtBody, builtRecord}
 
 head-length : (u m t : ℕ) → length (builtHead u m t) ≡ 16
 unfolding builtHead bytesOf
 head-length u m t = refl
-
-either-true : (b : Bool) → either b true ≡ true
-either-true true = refl
-either-true false = refl
 
 -- where no bit of the mask is set, zeros do for all keys
 keys-none : (v : ℕ) (l : List ℕ) → v ≤ 16 → zeros 320 112 l ≡ true → keysZero v l ≡ true
 unfolding keysZero
 keys-none zero l h z = refl
 keys-none (suc v) l h z =
-    rw (keys-none v l (omega arith) z, zeros-within 320 112 20 (112 + 20 * v) l (omega arith) (omega arith) z) (either-true (isValid v l))
+    rw (keys-none v l (omega arith) z, zeros-within 320 112 20 (112 + 20 * v) l (omega arith) (omega arith) z) (either-right (isValid v l) true refl)
 
 module _ (u m t : ℕ) (id auth gen : List ℕ) (hu : u < 65536) (hm : m < 65536) (ht : t < 2 ^ 32)
     (hi : length id ≡ 16) (ha : length auth ≡ 20) (hg : length gen ≡ 20) where
@@ -135,7 +133,7 @@ module _ (u m t : ℕ) (id auth gen : List ℕ) (hu : u < 65536) (hm : m < 65536
   pub built-used : m ≤ 1 → unitStateOf u (builtRecord u m t id auth gen) ≡ Used
   unfolding unitStateOf usedShape nextPairZero unnamedZero rec
   built-used h =
-      rw (built-checked, not-blank (zeros 492 0 rec) refl, eq-eqb (layout rec) 1 built-layout, eq-eqb (unitNumber rec) u built-number, le-leb (method rec) 1 (rw built-method h), le-leb (step rec) 1 (rw built-step (omega arith)), zeros-within 420 72 40 72 rec (omega arith) (omega arith) rest-zero, either-true (eqb (step rec) 1), keys-none 16 rec (omega arith) (zeros-within 420 72 320 112 rec (omega arith) (omega arith) rest-zero), zeros-within 420 72 60 432 rec (omega arith) (omega arith) rest-zero)
+      rw (built-checked, not-blank (zeros 492 0 rec) refl, eq-eqb (layout rec) 1 built-layout, eq-eqb (unitNumber rec) u built-number, le-leb (method rec) 1 (rw built-method h), le-leb (step rec) 1 (rw built-step (omega arith)), zeros-within 420 72 40 72 rec (omega arith) (omega arith) rest-zero, either-right (eqb (step rec) 1) true refl, keys-none 16 rec (omega arith) (zeros-within 420 72 320 112 rec (omega arith) (omega arith) rest-zero), zeros-within 420 72 60 432 rec (omega arith) (omega arith) rest-zero)
 
 -- ---- the writer's steps: zeros, four patches one behind another, the check
 

@@ -3,7 +3,8 @@ use mathlib.Core.Bool.{Bool, true, false}
 use mathlib.Core.List.{List, _++_}
 use Prim.Native.Nat.{ℕ, zero, suc, _+_, _*_, _/_, _%_, _^_}
 use lib.Dec.{eqb, leb}
-use Rattle.wire.specs.Bytes.{both, either, part, number, bytesOf, zeros, patch}
+use Rattle.choice.specs.Choice.{both, either, pick}
+use Rattle.wire.specs.Bytes.{part, number, bytesOf, zeros, patch}
 use Rattle.seal.specs.Seal.{checked, seal, blank}
 use Rattle.units.specs.declared.UnitState.{UnitState}
 use Rattle.units.specs.declared.UnitState.the-variants.{Unused, Used, Unsound}
@@ -72,10 +73,6 @@ usedShape u l =
     (both (leb (step l) 1)
     (both (either (eqb (step l) 1) (nextPairZero l))
     (both (keysZero 16 l) (unnamedZero l))))))
-
-abbrev pub pick : Bool → UnitState → UnitState → UnitState
-pick true a b = a
-pick false a b = b
 
 -- soundness is check, shape and zeros together; an unused record is zero up to 491, at any place
 unfoldable pub unitStateOf : ℕ → List ℕ → UnitState

@@ -5,13 +5,15 @@ use mathlib.Core.List.{List}
 use Prim.Native.Nat.{ℕ, _+_, _*_}
 use native.Mathlib.Numerals.{add-one}
 use lib.ListN.{length}
-use Rattle.wire.specs.Bytes.{both, either, same, zeros}
+use Rattle.choice.specs.Choice.{both, either, pick}
+use Rattle.choice.specs.ChoiceLaws.{both-true}
+use Rattle.wire.specs.Bytes.{same, zeros}
 use Rattle.wire.specs.SameLaws.{same-true, same-refl}
 use Rattle.seal.specs.Seal.{checked, blankRecord}
 use Rattle.seal.specs.BlankLaws.{record-checked, record-zeros, blank-sound}
 use Rattle.units.specs.declared.UnitState.{UnitState}
 use Rattle.units.specs.declared.UnitState.the-variants.{Unused, Used, Unsound}
-use Rattle.units.specs.Unit.{isValid, keysZero, usedShape, pick, unitStateOf}
+use Rattle.units.specs.Unit.{isValid, keysZero, usedShape, unitStateOf}
 
 pub keys-zero : (l : List ℕ) → keysZero 0 l ≡ true
 unfolding keysZero
@@ -20,10 +22,6 @@ keys-zero l = refl
 pub keys-more : (v : ℕ) (l : List ℕ) → keysZero (v + 1) l ≡ both (keysZero v l) (either (isValid v l) (zeros 20 (112 + 20 * v) l))
 unfolding keysZero
 keys-more v l = rw add-one refl
-
-both-parts : (a b : Bool) → both a b ≡ true → (a ≡ true) × (b ≡ true)
-both-parts true b e = (refl, e)
-both-parts false b e = let z : true ≡ false = sym e in (sym z, cc)
 
 -- ---- the state, as the code finds it: the blank record first, then shape and check
 
@@ -44,7 +42,7 @@ module _ (u : ℕ) (l : List ℕ) (full : length l ≡ 512) where
   shaped e p = rw (p .1, not-zero e (p .1) (zeros 492 0 l) refl, p .0)
 
   pub state-used : same l blankRecord ≡ false → both (usedShape u l) (checked l) ≡ true → Used ≡ unitStateOf u l
-  state-used e b = shaped e (both-parts (usedShape u l) (checked l) b)
+  state-used e b = shaped e (both-true (usedShape u l) (checked l) b)
 
   unshaped : same l blankRecord ≡ false → (k : Bool) → checked l ≡ k → (s : Bool) → usedShape u l ≡ s → both s k ≡ false → Unsound ≡ unitStateOf u l
   unfolding unitStateOf

@@ -31,7 +31,7 @@ fn keys_zero(rec: &[u8]) -> bool
     let mut v = 0u32;
     while v < 16 {
         let empty = wire::are_zeros(rec, 112 + 20 * (v as usize), 20);
-        ok = wire::and(ok, wire::or(has_bit(mask, v), empty));
+        ok = choice::and(ok, choice::or(has_bit(mask, v), empty));
         v += 1;
     }
     ok
@@ -45,13 +45,13 @@ fn used_shape(rec: &[u8], place: u32) -> bool
     let number = wire::be16(rec, 2) as u32 == place;
     let method = wire::be16(rec, 4) <= 1;
     let step = wire::be32(rec, 12);
-    let pair = wire::or(step == 1, wire::are_zeros(rec, 72, 40));
-    let keys = wire::and(keys_zero(rec), wire::are_zeros(rec, 432, 60));
-    wire::and(
+    let pair = choice::or(step == 1, wire::are_zeros(rec, 72, 40));
+    let keys = choice::and(keys_zero(rec), wire::are_zeros(rec, 432, 60));
+    choice::and(
         layout,
-        wire::and(
+        choice::and(
             number,
-            wire::and(method, wire::and(step <= 1, wire::and(pair, keys))),
+            choice::and(method, choice::and(step <= 1, choice::and(pair, keys))),
         ),
     )
 }
@@ -64,7 +64,7 @@ fn state_of(rec: &[u8], place: u32) -> UnitState
     if seal::is_blank(rec) {
         return UnitState::Unused;
     }
-    if wire::and(used_shape(rec, place), seal::is_checked(rec)) {
+    if choice::and(used_shape(rec, place), seal::is_checked(rec)) {
         return UnitState::Used;
     }
     UnitState::Unsound

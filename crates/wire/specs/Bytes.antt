@@ -4,14 +4,7 @@ use mathlib.Core.Bool.{Bool, true, false}
 use mathlib.Core.List.{List, [], _∷_, _++_}
 use lib.Dec.{eqb}
 use lib.ListN.{length, getD, take, drop}
-
-abbrev pub both : Bool → Bool → Bool
-both true b = b
-both false b = false
-
-abbrev pub either : Bool → Bool → Bool
-either true b = true
-either false b = b
+use Rattle.choice.specs.Choice.{both}
 
 -- are the two lists the same? (SameLaws: `same-true` and `same-refl`)
 unfoldable pub same : List ℕ → List ℕ → Bool

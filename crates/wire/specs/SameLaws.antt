@@ -10,11 +10,9 @@ use lib.Seq.{take-suc, take-all, getD-at, length-take-le, take-at}
 use lib.Bits.{bitAnd, bitOr, bitXor, or-add-and, xor-add-and, xor-self, or-zero-r, and-le-l, and-le-r}
 use lib.Dec.{eqb}
 use borrow.Author.Tests.{eq-eqb, eqb-true, eqb-false}
-use Rattle.wire.specs.Bytes.{both, same}
-
-both-parts : (a b : Bool) → both a b ≡ true → (a ≡ true) × (b ≡ true)
-both-parts true b e = (refl, e)
-both-parts false b e = let z : true ≡ false = sym e in (sym z, cc)
+use Rattle.choice.specs.Choice.{both}
+use Rattle.choice.specs.ChoiceLaws.{both-true}
+use Rattle.wire.specs.Bytes.{same}
 
 pub same-refl : (xs : List ℕ) → same xs xs ≡ true
 unfolding same
@@ -27,7 +25,7 @@ same-true [] [] e = refl
 same-true [] (y ∷ ys) e = cc
 same-true (x ∷ xs) [] e = cc
 same-true (x ∷ xs) (y ∷ ys) e =
-    let p = both-parts (eqb x y) (same xs ys) e in
+    let p = both-true (eqb x y) (same xs ys) e in
     ap₂ (λ (z : ℕ) (zs : List ℕ). z ∷ zs) (eqb-true x y (p .0)) (same-true xs ys (p .1))
 
 -- a test that is true exactly where the lists are equal is `same`

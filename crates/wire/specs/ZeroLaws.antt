@@ -10,7 +10,9 @@ use lib.Dec.{eqb}
 use lib.ListN.{length, getD, replicate, getD-replicate, length-replicate, length-take, length-drop, take, drop}
 use lib.Seq.{ext-getD, getD-take, getD-drop}
 use borrow.Author.Tests.{eq-eqb, ne-eqb, eqb-true}
-use Rattle.wire.specs.Bytes.{both, part, number, zeros, patch}
+use Rattle.choice.specs.Choice.{both}
+use Rattle.choice.specs.ChoiceLaws.{both-true}
+use Rattle.wire.specs.Bytes.{part, number, zeros, patch}
 use Rattle.wire.specs.NumberLaws.{number-none}
 use Rattle.wire.specs.PatchLaws.{at-outside}
 
@@ -34,17 +36,13 @@ module _ (i e a : ℕ) (l : List ℕ) (h : i < e) where
 
 -- ---- the bytes: each is zero, and each being zero is enough
 
-both-parts : (a b : Bool) → both a b ≡ true → (a ≡ true) × (b ≡ true)
-both-parts true b e = (refl, e)
-both-parts false b e = let z : true ≡ false = sym e in (sym z, cc)
-
 pub zeros-at : (n a : ℕ) (l : List ℕ) → zeros n a l ≡ true → (i : ℕ) → i < n → getD l (a + i) 0 ≡ 0
 unfolding zeros
 zeros-at zero a l e i h = let f : ⊥ = omega arith in absurd f
-zeros-at (suc n) a l e zero h = rw add-zero (eqb-true (getD l a 0) 0 (both-parts (eqb (getD l a 0) 0) (zeros n (a + 1) l) e .0))
+zeros-at (suc n) a l e zero h = rw add-zero (eqb-true (getD l a 0) 0 (both-true (eqb (getD l a 0) 0) (zeros n (a + 1) l) e .0))
 zeros-at (suc n) a l e (suc i) h =
     let q : a + 1 + i ≡ a + suc i = omega arith in
-    rw q at (zeros-at n (a + 1) l (both-parts (eqb (getD l a 0) 0) (zeros n (a + 1) l) e .1) i (omega arith))
+    rw q at (zeros-at n (a + 1) l (both-true (eqb (getD l a 0) 0) (zeros n (a + 1) l) e .1) i (omega arith))
 
 pub zeros-all : (n a : ℕ) (l : List ℕ) → ((i : ℕ) → i < n → getD l (a + i) 0 ≡ 0) → zeros n a l ≡ true
 unfolding zeros

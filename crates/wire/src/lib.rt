@@ -2,19 +2,8 @@
 ghost use mathlib.Core.Path.{_≡_};
 ghost use Prim.Native.Nat.{_+_, _≤_, _<_};
 ghost use lib.ListN.{length, getD};
-ghost use Rattle.wire.specs.Bytes.{both, either, same, part, number, bytesOf, zeros, patch};
-
-pub fn and(a: bool, b: bool) -> bool
-    ensures { λ r. ⌜ r ≡ both a b ⌝ }
-{
-    if a { b } else { false }
-}
-
-pub fn or(a: bool, b: bool) -> bool
-    ensures { λ r. ⌜ r ≡ either a b ⌝ }
-{
-    if a { true } else { b }
-}
+ghost use Rattle.choice.specs.Choice.{both, either};
+ghost use Rattle.wire.specs.Bytes.{same, part, number, bytesOf, zeros, patch};
 
 // Are the two the same? All 20 bytes are looked at whatever they hold, so that the time taken tells nobody how many were right.
 pub fn same20(a: [u8; 20], b: [u8; 20]) -> bool

@@ -2,7 +2,7 @@
 use mathlib.Core.Logic.{⊎-elim}
 use mathlib.Core.List.{[], _∷_}
 use borrow.Author.Tests.{ne-eqb}
-use Rattle.model.specs.ChoiceLaws.{one-of-not}
+use Rattle.model.specs.AmongLaws.{one-of-not}
 use Rattle.model.specs.Refusal.{additionalCode}
 use Rattle.model.proofs.additional_code.Statement.{statement}
 use Rattle.model.proofs.additional_code.Tie as tie

@@ -1,6 +1,6 @@
 -- The arm has the codes of the list.
 use mathlib.Core.Path.{sym}
-use Rattle.model.specs.ChoiceLaws.{one-of-in, one-of-not}
+use Rattle.model.specs.AmongLaws.{one-of-in, one-of-not}
 use Rattle.model.specs.Codes.{dataOutCodes, dataOut}
 use Rattle.model.proofs.data_out.Statement.{statement}
 use Rattle.model.proofs.data_out.Tie as tie

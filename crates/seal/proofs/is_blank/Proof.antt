@@ -1,6 +1,7 @@
 -- Zeros and the constant are the blank record.
 use mathlib.Core.Path.{_∙_, ap₂}
-use Rattle.wire.specs.Bytes.{both, same}
+use Rattle.choice.specs.Choice.{both}
+use Rattle.wire.specs.Bytes.{same}
 use Rattle.seal.specs.BlankLaws.{blank-test}
 use borrow.Author.Needs.{needs}
 use Rattle.seal.proofs.is_blank.Statement.{statement}

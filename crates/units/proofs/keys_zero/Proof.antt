@@ -3,7 +3,8 @@ use mathlib.Core.Path.{_≡_, refl, sym, ap, ap₂, _∙_}
 use Prim.Native.Nat.{ℕ, _+_, _*_, _/_, _%_, _^_, _≤_, _-_}
 use native.Mathlib.Omega.{arith}
 use lib.Dec.{eqb}
-use Rattle.wire.specs.Bytes.{both, either, number}
+use Rattle.choice.specs.Choice.{both, either}
+use Rattle.wire.specs.Bytes.{number}
 use Rattle.units.specs.Unit.{keysZero, isValid, mask}
 use Rattle.units.specs.UnitLaws.{keys-zero, keys-more}
 use borrow.Author.Needs.{needs}

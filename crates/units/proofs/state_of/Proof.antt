@@ -1,6 +1,6 @@
 -- The blank record is the unused one; shape and check make a used one.
 use mathlib.Core.Path.{sym, _∙_, ap₂}
-use Rattle.wire.specs.Bytes.{both}
+use Rattle.choice.specs.Choice.{both}
 use Rattle.units.specs.UnitLaws.{state-unused, state-used, state-unsound}
 use borrow.Author.Needs.{needs}
 use Rattle.units.proofs.state_of.Statement.{statement}

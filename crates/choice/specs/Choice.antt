@@ -1,8 +1,5 @@
--- Choices by a Bool, and tests on lists of numbers.
-use Prim.Native.Nat.{ℕ}
+-- Choices by a test.
 use mathlib.Core.Bool.{Bool, true, false}
-use mathlib.Core.List.{List, [], _∷_}
-use lib.Dec.{eqb}
 
 -- the first where the test holds, else the second
 abbrev pub pick : {A : Type 0} → Bool → A → A → A
@@ -16,8 +13,3 @@ both false b = false
 abbrev pub either : Bool → Bool → Bool
 either true b = true
 either false b = b
-
--- is the number in the list?
-abbrev pub isIn : List ℕ → ℕ → Bool
-isIn [] n = false
-isIn (x ∷ xs) n = either (eqb n x) (isIn xs n)

@@ -1,4 +1,4 @@
--- Laws of choices by a Bool and of membership.
+-- Laws of membership in a list of numbers.
 use Prim.Native.Nat.{ℕ}
 use mathlib.Core.Path.{_≡_, refl, ap, _∙_}
 use mathlib.Core.Bool.{Bool, true, false}
@@ -7,26 +7,11 @@ use mathlib.Core.List.{List, [], _∷_}
 use lib.Dec.{eqb}
 use types.Run.{OneOf}
 use borrow.Author.Tests.{eqb-true, eq-eqb, ne-eqb}
-use Rattle.model.specs.Choice.{pick, both, either, isIn}
-
-pub both-true : (a b : Bool) → both a b ≡ true → (a ≡ true) × (b ≡ true)
-both-true true b e = (refl, e)
-both-true false b e = (e, cc)
-
-pub either-false : (a b : Bool) → either a b ≡ false → (a ≡ false) × (b ≡ false)
-either-false true b e = (e, cc)
-either-false false b e = (refl, e)
-
--- what holds of both choices holds of the one that is taken
-pub pick-holds : {A : Type 0} (P : A → Type 0) (b : Bool) (x y : A) → P x → P y → P (pick b x y)
-pick-holds P true x y p q = p
-pick-holds P false x y p q = q
+use Rattle.choice.specs.Choice.{both, either}
+use Rattle.choice.specs.ChoiceLaws.{both-true, either-right}
+use Rattle.model.specs.Among.{isIn}
 
 -- ---- membership, and what an arm of a `match` on numbers tells: `OneOf`, an equation for each number of the arm
-
-either-right : (a b : Bool) → b ≡ true → either a b ≡ true
-either-right true b e = refl
-either-right false b e = e
 
 pub one-of-in : (xs : List ℕ) (n : ℕ) → OneOf xs n → isIn xs n ≡ true
 one-of-in [] n a = absurd a
