@@ -11,7 +11,7 @@ pub record Edge : Type 0 where
   pub rule : Bool
   pub must : Bool
 
-abbrev edge : Bool → Bool → Edge
+abbrev pub edge : Bool → Bool → Edge
 edge r m = record { rule = r; must = m }
 
 unfoldable pub edges : List Edge

@@ -93,7 +93,7 @@ differ-bits a b (inr p) (inr q) = rw (p, q)
 
 -- over any operation on numbers that goes by steps of a bit
 module _ (op f : ℕ → ℕ → ℕ) (none : op 0 0 ≡ 0) (step : (a b : ℕ) → op a b ≡ op (a / 2) (b / 2) * 2 + f (a % 2) (b % 2)) where
-  bits-is : (k a b : ℕ) → a < 2 ^ k → b < 2 ^ k → bits k f a b ≡ op a b
+  pub bits-is : (k a b : ℕ) → a < 2 ^ k → b < 2 ^ k → bits k f a b ≡ op a b
   unfolding bits
   bits-is zero a b ha hb =
       let ea : a ≡ 0 = omega arith in

@@ -1,0 +1,5 @@
+-- What the crate's contracts cite: Descriptor and Faults hold the meanings, Edges document 01's examples of them.
+pub mod Descriptor
+pub mod Faults
+pub mod FaultLaws
+pub mod Edges
