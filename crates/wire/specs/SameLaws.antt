@@ -5,14 +5,14 @@ use mathlib.Core.Bool.{Bool, true, false}
 use mathlib.Core.List.{List, [], _∷_, _++_}
 use native.Mathlib.Omega.{arith}
 use native.Mathlib.Numerals.{add-one}
-use lib.ListN.{length, getD, take}
-use lib.Seq.{take-suc, take-all, getD-at, length-take-le, take-at}
+use lib.ListN.{length, getD, take, drop, length-drop}
+use lib.Seq.{take-suc, take-all, getD-at, getD-take, getD-drop, length-take-le, take-at}
 use lib.Bits.{bitAnd, bitOr, bitXor, or-add-and, xor-add-and, xor-self, or-zero-r, and-le-l, and-le-r}
 use lib.Dec.{eqb}
 use borrow.Author.Tests.{eq-eqb, eqb-true, eqb-false}
 use Rattle.choice.specs.Choice.{both}
 use Rattle.choice.specs.ChoiceLaws.{both-true}
-use Rattle.wire.specs.Bytes.{same}
+use Rattle.wire.specs.Bytes.{same, part}
 
 pub same-refl : (xs : List ℕ) → same xs xs ≡ true
 unfolding same
@@ -90,3 +90,21 @@ differs-done xs ys i d hx hy k =
     same-is (eqb d 0) xs ys
     (λ e. sym (take-all i xs hx) ∙ k .none (eqb-true d 0 e) ∙ take-all i ys hy)
     (λ e. eq-eqb d 0 (k .some (ap (take i) e)))
+
+-- ---- parts of two longer lists
+
+module _ (s t : List ℕ) (a b n : ℕ) (hs : a + n ≤ length s) (ht : b + n ≤ length t) where
+  part-full : (l : List ℕ) (k : ℕ) → k + n ≤ length l → length (part k n l) ≡ n
+  part-full l k h = length-take-le n (drop k l) (rw length-drop (omega arith))
+
+  part-byte : (l : List ℕ) (k i : ℕ) → i < n → getD (part k n l) i 0 ≡ getD l (k + i) 0
+  part-byte l k i h = getD-take n (drop k l) i 0 h ∙ getD-drop k l i 0
+
+  pub parts-more : (i d : ℕ) → i < n → Differs (part a n s) (part b n t) i d
+      → Differs (part a n s) (part b n t) (i + 1) (bitOr d (bitXor (getD s (a + i) 0) (getD t (b + i) 0)))
+  parts-more i d h k =
+      rw (← part-byte s a i h, ← part-byte t b i h)
+      (differs-more (part a n s) (part b n t) i d (omega (arith, part-full s a hs)) (omega (arith, part-full t b ht)) k)
+
+  pub parts-done : (i d : ℕ) → n ≤ i → Differs (part a n s) (part b n t) i d → eqb d 0 ≡ same (part a n s) (part b n t)
+  parts-done i d h k = differs-done (part a n s) (part b n t) i d (omega (arith, part-full s a hs)) (omega (arith, part-full t b ht)) k

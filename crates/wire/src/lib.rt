@@ -18,6 +18,20 @@ pub fn same20(a: [u8; 20], b: [u8; 20]) -> bool
     different == 0
 }
 
+// Are the n bytes of s from a on those of t from b on? All are looked at.
+pub fn same_parts(s: &[u8], a: usize, t: &[u8], b: usize, n: usize) -> bool
+    requires { ⌜ (a + n ≤ length (now s)) × (b + n ≤ length (now t)) ⌝ }
+    ensures { λ r. ⌜ r ≡ same (part a n (now (s .entry))) (part b n (now (t .entry))) ⌝ }
+{
+    let mut different: u8 = 0;
+    let mut i = 0;
+    while i < n {
+        different = different | (s[a + i] ^ t[b + i]);
+        i += 1;
+    }
+    different == 0
+}
+
 // The byte at i, and 0 past the end.
 pub fn at(s: &[u8], i: usize) -> u8
     ensures { λ r. ⌜ r ≡ getD (now (s .entry)) i 0 ⌝ }
@@ -43,6 +57,16 @@ pub fn be32(s: &[u8], a: usize) -> u32
     let high = be16(s, a);
     let low = be16(s, a + 2);
     (high as u32) * 65536 + low as u32
+}
+
+// The big-endian number in the six bytes from a on.
+pub fn be48(s: &[u8], a: usize) -> u64
+    requires { ⌜ a < 65532 ⌝ }
+    ensures { λ r. ⌜ r ≡ number 6 a (now (s .entry)) ⌝ }
+{
+    let high = be32(s, a);
+    let low = be16(s, a + 4);
+    (high as u64) * 65536 + low as u64
 }
 
 // Are the n bytes from a on zero?

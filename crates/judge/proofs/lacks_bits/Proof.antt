@@ -7,10 +7,7 @@ use Rattle.judge.specs.FaultLaws.{and-bytes}
 use Rattle.judge.specs.Faults.{lacksBits}
 use Rattle.judge.proofs.lacks_bits.Statement.{statement}
 use Rattle.judge.proofs.lacks_bits.Tie as tie
-use Rattle.judge.proofs.lacks_bits.Reads as reads
-use Rattle.judge.proofs.lacks_bits.Lts as lts
 
--- src/lib.rt:34:1
 returns : tie.Need-returns
 unfolding lacksBits
 returns c =

@@ -3,10 +3,7 @@ use mathlib.Core.Path.{refl}
 use Rattle.judge.specs.Faults.{wrongFormat}
 use Rattle.judge.proofs.wrong_format.Statement.{statement}
 use Rattle.judge.proofs.wrong_format.Tie as tie
-use Rattle.judge.proofs.wrong_format.Reads as reads
-use Rattle.judge.proofs.wrong_format.Lts as lts
 
--- src/lib.rt:6:1
 returns : tie.Need-returns
 unfolding wrongFormat
 returns c = refl
