@@ -1,5 +1,6 @@
--- What the crate's contracts cite: Descriptor and Faults hold the meanings, Edges document 01's examples of them.
+-- What the crate's contracts cite: Descriptor, Faults and Judgement hold the meanings, Edges document 01's examples of them.
 pub mod Descriptor
 pub mod Faults
 pub mod FaultLaws
+pub mod Judgement
 pub mod Edges

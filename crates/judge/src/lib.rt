@@ -1,6 +1,12 @@
-// The faults of a capability, each as document 01 words it.
+// The judgement: the faults of a capability, each as document 01 words it, and the first of them that applies.
 ghost use mathlib.Core.Path.{_≡_};
-ghost use Rattle.judge.specs.Faults.{wrongFormat, wrongMethod, wrongAlgorithm, expired, lacksBits, wrongTag};
+ghost use Prim.Native.Nat.{_+_, _≤_, _<_};
+ghost use lib.ListN.{length};
+ghost use Rattle.choice.specs.Choice.{pick};
+ghost use Rattle.judge.specs.Faults.{wrongFormat, wrongMethod, wrongAlgorithm, expired, lacksBits, wrongTag, wrongDescriptor};
+ghost use Rattle.judge.specs.Descriptor.{descriptorType, descriptorLength, descriptorId};
+ghost use Rattle.units.specs.Unit.{identifier};
+ghost use Rattle.judge.specs.Judgement.{first, formTests, factTests};
 
 // 7: format not 1h.
 pub fn wrong_format(format: u8) -> bool
@@ -43,4 +49,50 @@ pub fn wrong_tag(tag: u32, unit_tag: u32) -> bool
     ensures { λ r. ⌜ r ≡ wrongTag tag «unit_tag» ⌝ }
 {
     choice::and(tag != 0, tag != unit_tag)
+}
+
+// 13: type not 1h, length not 16, or identifier not the unit's. The descriptor stands in the command from a on, the unit's identifier in
+// its record.
+fn wrong_descriptor(command: &[u8], a: usize, rec: &[u8]) -> bool
+    requires { ⌜ (a < 100) × (a + 58 ≤ length (now command)) × (length (now rec) ≡ 512) ⌝ }
+    ensures { λ r. ⌜ r ≡ wrongDescriptor (descriptorType a (now (command .entry))) (descriptorLength a (now (command .entry))) (descriptorId a (now (command .entry))) (identifier (now (rec .entry))) ⌝ }
+{
+    let kind = wire::at(command, a + 40) % 16;
+    let len = wire::at(command, a + 41);
+    let own = wire::same_parts(command, a + 42, rec, 16, 16);
+    choice::or(kind != 1, choice::or(len != 16, !own))
+}
+
+// The reason where the test applies, else what the tests after it say.
+fn judged(applies: bool, reason: u8, rest: u8) -> u8
+    ensures { λ r. ⌜ r ≡ pick applies reason rest ⌝ }
+{
+    if applies { reason } else { rest }
+}
+
+// Reasons 7 to 9, or 0.
+pub fn form_reason(rules: bool, command: &[u8], a: usize) -> u8
+    requires { ⌜ a < 100 ⌝ }
+    ensures { λ r. ⌜ r ≡ first (formTests rules a (now (command .entry))) ⌝ }
+{
+    let format = wrong_format(wire::at(command, a) / 16);
+    let method = wrong_method(rules, wire::at(command, a + 1));
+    let algorithm = wrong_algorithm(rules, wire::be32(command, a + 2));
+    judged(format, 7, judged(method, 8, judged(algorithm, 9, 0)))
+}
+
+// Reasons 10 to 13, or 0.
+pub fn fact_reason(needed: u8, rec: &[u8], command: &[u8], a: usize, clock: u64) -> u8
+    requires { ⌜ (a < 100) × (a + 58 ≤ length (now command)) × (length (now rec) ≡ 512) ⌝ }
+    ensures { λ r. ⌜ r ≡ first (factTests needed (now (rec .entry)) a (now (command .entry)) clock) ⌝ }
+{
+    let expired = is_expired(wire::be48(command, a + 6), clock);
+    let lacking = lacks_bits(needed, wire::at(command, a + 32));
+    let tag = wrong_tag(wire::be32(command, a + 36), wire::be32(rec, 8));
+    let descriptor = wrong_descriptor(command, a, rec);
+    judged(
+        expired,
+        10,
+        judged(lacking, 11, judged(tag, 12, judged(descriptor, 13, 0))),
+    )
 }
