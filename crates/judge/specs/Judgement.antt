@@ -1,10 +1,18 @@
--- The judgement as lists of tests, of which the first that applies answers (document 01, "Order of judgement"): today the tests of the
--- capability's form, reasons 7 to 9, and of its facts, reasons 10 to 13, over the command c with its descriptor from a on.
-use mathlib.Core.Bool.{Bool}
+-- The judgement as lists of tests, of which the first that applies answers (document 01, "Order of judgement"): today those of the
+-- unit and the command, reasons 1 to 4, of the capability's form, 7 to 9, and of its facts, 10 to 13, where the command c has its
+-- descriptor from a on.
+use mathlib.Core.Bool.{Bool, true, false, not}
 use mathlib.Core.List.{List, [], _∷_}
-use Prim.Native.Nat.{ℕ}
-use Rattle.choice.specs.Choice.{pick}
-use Rattle.units.specs.Unit.{policyTag, identifier}
+use Prim.Native.Nat.{ℕ, _/_, _%_, _^_}
+use lib.Dec.{eqb, ltb}
+use lib.ListN.{length, getD}
+use Rattle.choice.specs.Choice.{pick, both, either}
+use Rattle.model.specs.Rows.{listed, byPage}
+use Rattle.model.specs.Codes.{legalLen}
+use Rattle.units.specs.declared.UnitState.{UnitState}
+use Rattle.units.specs.declared.UnitState.the-variants.{Unused, Used, Unsound}
+use Rattle.units.specs.Unit.{policyTag, identifier, unitState}
+use Rattle.judge.specs.Command.{codeOf, needFor, isUnknown}
 use Rattle.judge.specs.Descriptor.{format, capMethod, algorithm, expiration, permissions, capTag, descriptorType, descriptorLength, descriptorId}
 use Rattle.judge.specs.Faults.{wrongFormat, wrongMethod, wrongAlgorithm, expired, lacksBits, wrongTag, wrongDescriptor}
 
@@ -20,6 +28,32 @@ test r b = record { reason = r; applies = b }
 abbrev pub first : List Test → ℕ
 first [] = 0
 first (t ∷ ts) = pick (t .applies) (t .reason) (first ts)
+
+abbrev pub isUnused : UnitState → Bool
+isUnused Unused = true
+isUnused Used = false
+isUnused Unsound = false
+
+abbrev pub isUnsound : UnitState → Bool
+isUnsound Unused = false
+isUnsound Used = false
+isUnsound Unsound = true
+
+-- the unit: above 7, or its record sound and unused; its record unsound
+unfoldable pub unitTests : List ℕ → ℕ → List Test
+unitTests units u =
+    test 1 (either (ltb 7 u) (isUnused (unitState units u))) ∷
+    test 0x1b (isUnsound (unitState units u)) ∷
+    []
+
+-- the command: empty or its code unknown; its length; for A2h and B5h the protocol and the page, and bit 7 of byte 4
+unfoldable pub commandTests : List ℕ → List Test
+commandTests c =
+    test 2 (either (eqb (length c) 0) (not (listed (codeOf c)))) ∷
+    test 3 (not (legalLen (codeOf c) (length c))) ∷
+    test 4 (both (byPage (codeOf c)) (either (not (eqb (getD c 1 0) 0x07)) (isUnknown (needFor c)))) ∷
+    test 4 (both (byPage (codeOf c)) (eqb (getD c 4 0 / 2 ^ 7 % 2) 1)) ∷
+    []
 
 -- the capability's form; rules says whether CAPKEY rules
 unfoldable pub formTests : Bool → ℕ → List ℕ → List Test

@@ -1,6 +1,8 @@
--- What the crate's contracts cite: Descriptor, Faults and Judgement hold the meanings, Edges document 01's examples of them.
+-- What the crate's contracts cite: Command, Descriptor, Faults and Judgement hold the meanings, Edges document 01's examples of them.
+pub mod Command
 pub mod Descriptor
 pub mod Faults
 pub mod FaultLaws
 pub mod Judgement
+pub mod JudgementLaws
 pub mod Edges

@@ -1,4 +1,7 @@
 // The judgement: the faults of a capability, each as document 01 words it, and the first of them that applies.
+use model::Need;
+use model::UnitNo;
+use units::UnitState;
 ghost use mathlib.Core.Path.{_≡_};
 ghost use Prim.Native.Nat.{_+_, _≤_, _<_};
 ghost use lib.ListN.{length};
@@ -6,7 +9,9 @@ ghost use Rattle.choice.specs.Choice.{pick};
 ghost use Rattle.judge.specs.Faults.{wrongFormat, wrongMethod, wrongAlgorithm, expired, lacksBits, wrongTag, wrongDescriptor};
 ghost use Rattle.judge.specs.Descriptor.{descriptorType, descriptorLength, descriptorId};
 ghost use Rattle.units.specs.Unit.{identifier};
-ghost use Rattle.judge.specs.Judgement.{first, formTests, factTests};
+ghost use Rattle.judge.specs.Judgement.{first, isUnused, isUnsound, unitTests, commandTests, formTests, factTests};
+ghost use Rattle.judge.specs.Command.{isUnknown};
+ghost use Rattle.model.specs.Rows.{byPage};
 
 // 7: format not 1h.
 pub fn wrong_format(format: u8) -> bool
@@ -94,5 +99,83 @@ pub fn fact_reason(needed: u8, rec: &[u8], command: &[u8], a: usize, clock: u64)
         expired,
         10,
         judged(lacking, 11, judged(tag, 12, judged(descriptor, 13, 0))),
+    )
+}
+
+fn is_unused(s: UnitState) -> bool
+    ensures { λ r. ⌜ r ≡ isUnused s ⌝ }
+{
+    match s {
+        UnitState::Unused => true,
+        UnitState::Used => false,
+        UnitState::Unsound => false,
+    }
+}
+
+fn is_unsound(s: UnitState) -> bool
+    ensures { λ r. ⌜ r ≡ isUnsound s ⌝ }
+{
+    match s {
+        UnitState::Unused => false,
+        UnitState::Used => false,
+        UnitState::Unsound => true,
+    }
+}
+
+fn is_unknown(n: Need) -> bool
+    ensures { λ r. ⌜ r ≡ isUnknown n ⌝ }
+{
+    match n {
+        Need::Unknown => true,
+        Need::Open => false,
+        Need::Bits(_) => false,
+        Need::Master(_) => false,
+    }
+}
+
+// Reason 1 or 1b, or 0.
+pub fn unit_reason(units: &[u8], unit: UnitNo) -> u8
+    requires { ⌜ length (now units) ≡ 4096 ⌝ }
+    ensures { λ r. ⌜ r ≡ first (unitTests (now (units .entry)) (unit .0)) ⌝ }
+{
+    let u = unit.0;
+    if 7 < u {
+        return 1;
+    }
+    let state = units::unit_state(units, unit);
+    judged(is_unused(state), 1, judged(is_unsound(state), 0x1b, 0))
+}
+
+// Does the code go by page?
+fn by_page(code: u8) -> bool
+    ensures { λ r. ⌜ r ≡ byPage code ⌝ }
+{
+    match code {
+        0xA2 | 0xB5 => true,
+        _ => false,
+    }
+}
+
+// Reasons 2 to 4, or 0.
+pub fn command_reason(command: &[u8]) -> u8
+    ensures { λ r. ⌜ r ≡ first (commandTests (now (command .entry))) ⌝ }
+{
+    let n = command.len();
+    let code = wire::at(command, 0);
+    let need = model::need_of(code, wire::be16(command, 2) as u32);
+    let protocol = wire::at(command, 1);
+    let bit = wire::at(command, 4) / 128 % 2 == 1;
+    let security = by_page(code);
+    let unknown = choice::or(n == 0, !model::known(code));
+    let length = !model::legal_len(code, n);
+    let page = choice::and(security, choice::or(protocol != 0x07, is_unknown(need)));
+    judged(
+        unknown,
+        2,
+        judged(
+            length,
+            3,
+            judged(page, 4, judged(choice::and(security, bit), 4, 0)),
+        ),
     )
 }
