@@ -5,4 +5,5 @@ pub mod Faults
 pub mod FaultLaws
 pub mod Judgement
 pub mod JudgementLaws
+pub mod Keys
 pub mod Edges

@@ -1,4 +1,7 @@
 // The judgement: the faults of a capability, each as document 01 words it, and the first of them that applies.
+mod keys;
+
+pub use keys::validation_tag;
 use model::Need;
 use model::UnitNo;
 use units::UnitState;
