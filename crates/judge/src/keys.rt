@@ -5,11 +5,12 @@ use units::Key;
 ghost use mathlib.Core.Path.{_≡_};
 ghost use Prim.Native.Nat.{_+_, _≤_, _<_};
 ghost use lib.ListN.{length};
-ghost use mathlib.Core.Bool.{true};
+ghost use mathlib.Core.Bool.{true, not};
 ghost use lib.Dec.{eqb};
 ghost use Rattle.choice.specs.Choice.{pick, both};
+ghost use Rattle.wire.specs.Bytes.{same};
 ghost use Rattle.units.specs.Unit.{authKey, nextAuthKey, step};
-ghost use Rattle.judge.specs.Keys.{keyFound, keyUsed, validationTag};
+ghost use Rattle.judge.specs.Keys.{keyFound, keyUsed, validationTag, checkValue};
 
 // The authentication master key of a key set, for version 0; for Change the next one, which is there at step 1.
 fn master_key(rec: &[u8], change: bool, version: u32) -> Key
@@ -49,11 +50,21 @@ pub fn chosen_key(
 
 // The validation tag: the HMAC over the token under the capability key, which is the HMAC over the descriptor under the key. Everything
 // that wants one calls this.
-pub fn validation_tag(key: [u8; 20], command: &[u8], a: usize, token: &[u8]) -> [u8; 20]
+pub fn validation_tag(key: &[u8], command: &[u8], a: usize, token: &[u8]) -> [u8; 20]
     requires { ⌜ (a < 100) × (a + 58 ≤ length (now command)) ⌝ }
-    ensures { λ r. ⌜ r ≡ validationTag key a (now (command .entry)) (now (token .entry)) ⌝ }
+    ensures { λ r. ⌜ r ≡ validationTag (now (key .entry)) a (now (command .entry)) (now (token .entry)) ⌝ }
 {
     let e = a + 58;
-    let capability = hmac::hmac_of(&key, &command[a..e]);
+    let capability = hmac::hmac_of(key, &command[a..e]);
     hmac::hmac_of(&capability, token)
+}
+
+// Does the integrity check value differ from the validation tag?
+fn wrong_value(key: Key, command: &[u8], a: usize, token: &[u8]) -> bool
+    requires { ⌜ (a < 100) × (a + 78 ≤ length (now command)) ⌝ }
+    ensures { λ r. ⌜ r ≡ not (same (validationTag (key .bytes) a (now (command .entry)) (now (token .entry))) (checkValue a (now (command .entry)))) ⌝ }
+{
+    let tag = validation_tag(&key.bytes, command, a, token);
+    let value = wire::bytes20(command, a + 58);
+    !wire::same20(tag, value)
 }

@@ -1,5 +1,5 @@
-use Prim.Native.Nat.{_*_}
 -- A master row reads its unit's key set, any other the version's key.
+use Prim.Native.Nat.{_*_}
 use Rattle.judge.specs.Keys.{keyFound, keyUsed}
 use Rattle.units.specs.Unit.{keySetOf}
 use Rattle.wire.specs.PatchLaws.{lent-part}

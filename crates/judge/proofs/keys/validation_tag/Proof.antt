@@ -12,9 +12,6 @@ use Rattle.judge.proofs.keys.validation_tag.Tie as tie
 add-e : tie.Need-add-e
 add-e c = search needs
 
-slice-aggregate-hmac-of : tie.Need-slice-aggregate-hmac-of
-slice-aggregate-hmac-of c = search needs
-
 sub-hmac-of : tie.Need-sub-hmac-of
 sub-hmac-of c = search needs
 
@@ -27,8 +24,8 @@ part-hmac-of-end c = search needs
 hmac-of-requires : tie.Need-hmac-of-requires
 hmac-of-requires c κs = search needs
 
-slice-aggregate-hmac-of-2 : tie.Need-slice-aggregate-hmac-of-2
-slice-aggregate-hmac-of-2 c = search needs
+slice-aggregate-hmac-of : tie.Need-slice-aggregate-hmac-of
+slice-aggregate-hmac-of c = search needs
 
 hmac-of-requires-2 : tie.Need-hmac-of-requires-2
 hmac-of-requires-2 c κs = search needs
@@ -39,18 +36,17 @@ returns c =
     let a = c .before .before .before .before .before .before .before .args in
     c .hmac-of2 .ensures
     ∙ ap (λ (k : List ℕ). hmac bySha1 k (a .token .now))
-    (c .before .before .hmac-of .ensures ∙ ap (hmac bySha1 (a .t1)) (lent-part (a .command .now) (a .a) 58))
+    (c .before .before .hmac-of .ensures ∙ ap (hmac bySha1 (a .key .now)) (lent-part (a .command .now) (a .a) 58))
 
 pub validation-tag-spec : {M : Type 1} → statement M
 validation-tag-spec =
     tie.close
     (tie.spec
     add-e
-    slice-aggregate-hmac-of
     sub-hmac-of
     part-hmac-of-start
     part-hmac-of-end
     hmac-of-requires
-    slice-aggregate-hmac-of-2
+    slice-aggregate-hmac-of
     hmac-of-requires-2
     returns)
