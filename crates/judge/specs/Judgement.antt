@@ -1,6 +1,6 @@
 -- The judgement as lists of tests, of which the first that applies answers (document 01, "Order of judgement"): today those of the
--- unit and the command, reasons 1 to 4, of the capability's form, 7 to 9, and of its facts, 10 to 13, where the command c has its
--- descriptor from a on.
+-- unit and the command, reasons 1 to 4, of the capability's form, 7 to 9, of its facts, 10 to 13, and of its key, 14 and 15, where
+-- the command c has its descriptor from a on.
 use mathlib.Core.Bool.{Bool, true, false, not}
 use mathlib.Core.List.{List, [], _∷_}
 use Prim.Native.Nat.{ℕ, _/_, _%_, _^_}
@@ -13,7 +13,9 @@ use Rattle.units.specs.declared.UnitState.{UnitState}
 use Rattle.units.specs.declared.UnitState.the-variants.{Unused, Used, Unsound}
 use Rattle.units.specs.Unit.{policyTag, identifier, unitState}
 use Rattle.judge.specs.Command.{codeOf, needFor, isUnknown}
-use Rattle.judge.specs.Descriptor.{format, capMethod, algorithm, expiration, permissions, capTag, descriptorType, descriptorLength, descriptorId}
+use Rattle.judge.specs.Descriptor.{format, keyVersion, capMethod, algorithm, expiration, permissions, capTag, descriptorType, descriptorLength, descriptorId}
+use Rattle.wire.specs.Bytes.{same}
+use Rattle.judge.specs.Keys.{keyFound, keyUsed, validationTag, checkValue}
 use Rattle.judge.specs.Faults.{wrongFormat, wrongMethod, wrongAlgorithm, expired, lacksBits, wrongTag, wrongDescriptor}
 
 -- a reason, and whether it applies
@@ -70,4 +72,11 @@ factTests needed rec a c clock =
     test 11 (lacksBits needed (permissions a c)) ∷
     test 12 (wrongTag (capTag a c) (policyTag rec)) ∷
     test 13 (wrongDescriptor (descriptorType a c) (descriptorLength a c) (descriptorId a c) (identifier rec)) ∷
+    []
+
+-- the capability's key and its check, where CAPKEY rules: no such key; the integrity check value differs
+unfoldable pub keyTests : Bool → List ℕ → ℕ → Bool → Bool → ℕ → List ℕ → List ℕ → List Test
+keyTests rules units u master change a c token =
+    test 14 (both rules (not (keyFound units u master change (keyVersion a c)))) ∷
+    test 15 (both rules (not (same (validationTag (keyUsed units u master change (keyVersion a c)) a c token) (checkValue a c)))) ∷
     []

@@ -10,6 +10,7 @@ ghost use lib.Dec.{eqb};
 ghost use Rattle.choice.specs.Choice.{pick, both};
 ghost use Rattle.wire.specs.Bytes.{same};
 ghost use Rattle.units.specs.Unit.{authKey, nextAuthKey, step};
+ghost use Rattle.judge.specs.Judgement.{first, keyTests};
 ghost use Rattle.judge.specs.Keys.{keyFound, keyUsed, validationTag, checkValue};
 
 // The authentication master key of a key set, for version 0; for Change the next one, which is there at step 1.
@@ -67,4 +68,31 @@ fn wrong_value(key: Key, command: &[u8], a: usize, token: &[u8]) -> bool
     let tag = validation_tag(&key.bytes, command, a, token);
     let value = wire::bytes20(command, a + 58);
     !wire::same20(tag, value)
+}
+
+// Reason 14 or 15, or 0. Nothing is hashed where CAPKEY doesn't rule or there is no key.
+pub fn key_reason(
+    rules: bool,
+    units: &[u8],
+    unit: UnitNo,
+    master: bool,
+    change: bool,
+    a: usize,
+    command: &[u8],
+    token: &[u8],
+) -> u8
+    requires { ⌜ (length (now units) ≡ 4096) × (unit .0 < 8) × (a < 100) × (a + 78 ≤ length (now command)) ⌝ }
+    ensures { λ r. ⌜ r ≡ first (keyTests rules (now (units .entry)) (unit .0) master change a (now (command .entry)) (now (token .entry))) ⌝ }
+{
+    if rules {
+        let version = wire::at(command, a) % 16;
+        let key = chosen_key(units, unit, master, change, KeyVersion(version as u32));
+        let found = key.valid;
+        if found {
+            let wrong = wrong_value(key, command, a, token);
+            return super::judged(wrong, 15, 0);
+        }
+        return 14;
+    }
+    0
 }

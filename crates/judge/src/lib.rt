@@ -1,6 +1,8 @@
 // The judgement: the faults of a capability, each as document 01 words it, and the first of them that applies.
 mod keys;
 
+pub use keys::chosen_key;
+pub use keys::key_reason;
 pub use keys::validation_tag;
 use model::Need;
 use model::UnitNo;
