@@ -10,6 +10,7 @@ pub mod Rows
 pub mod RowLaws
 pub mod Codes
 pub mod CodeLaws
+pub mod Totals
 -- IN page 0013h
 pub mod Controlled
 pub mod ControlledLaws

@@ -10,6 +10,7 @@ pub use controlled::controlled_at;
 ghost use mathlib.Core.Path.{_≡_};
 ghost use Rattle.model.specs.Codes.{cdbLen, dataOut, legalLen};
 ghost use Rattle.model.specs.Refusal.{senseKey, additionalCode, refusal};
+ghost use Rattle.model.specs.Totals.{totalOf};
 
 // Three numbers that are never taken for one another.
 pub struct UnitNo(pub u32);
@@ -118,4 +119,17 @@ pub fn legal_len(code: u8, n: usize) -> bool
         return true;
     }
     n == cdb + 78
+}
+
+// The total bytes of an Out page's parameter list, 0 for any other page.
+pub fn out_total(page: u32) -> u32
+    ensures { λ r. ⌜ r ≡ totalOf page ⌝ }
+{
+    match page {
+        0x0011 => 12,
+        0x0014 => 28,
+        0x0012 => 264,
+        0x0015 => 4,
+        _ => 0,
+    }
 }

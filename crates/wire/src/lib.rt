@@ -105,6 +105,18 @@ pub fn bytes2(x: u32) -> [u8; 2]
     [(x / 256 % 256) as u8, (x % 256) as u8]
 }
 
+// The four big-endian bytes of x.
+pub fn bytes4(x: u32) -> [u8; 4]
+    ensures { λ r. ⌜ r ≡ bytesOf 4 x ⌝ }
+{
+    [
+        (x / 256 / 256 / 256 % 256) as u8,
+        (x / 256 / 256 % 256) as u8,
+        (x / 256 % 256) as u8,
+        (x % 256) as u8,
+    ]
+}
+
 // Stores the bytes of s from a on.
 pub fn put(d: &mut [u8], a: usize, s: &[u8])
     requires { ⌜ a + length (now s) ≤ length (now d) ⌝ }
