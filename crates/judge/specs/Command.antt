@@ -22,6 +22,10 @@ pageOf c = number 2 2 c
 unfoldable pub isBare : List ℕ → Bool
 isBare c = eqb (length c) (cdbLen (codeOf c))
 
+-- Change Master Key: page 0015h of SECURITY PROTOCOL OUT
+unfoldable pub isChange : List ℕ → Bool
+isChange c = both (eqb (codeOf c) 0xB5) (eqb (pageOf c) 0x0015)
+
 unfoldable pub needFor : List ℕ → Need
 needFor c = needOf (codeOf c) (pageOf c)
 

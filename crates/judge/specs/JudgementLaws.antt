@@ -2,16 +2,27 @@
 use mathlib.Core.Path.{_≡_, refl}
 use mathlib.Core.Bool.{Bool, true, false, not}
 use mathlib.Core.List.{List}
-use Prim.Native.Nat.{ℕ}
-use lib.Dec.{eqb}
+use Prim.Native.Nat.{ℕ, _≤_}
+use lib.Dec.{eqb, ltb}
 use lib.ListN.{length}
+use borrow.Author.Tests.{le-ltb}
 use Rattle.choice.specs.Choice.{pick, either}
 use Rattle.choice.specs.ChoiceLaws.{either-right}
 use Rattle.model.specs.Rows.{listed}
 use Rattle.judge.specs.Command.{codeOf}
-use Rattle.judge.specs.Judgement.{first, commandTests}
+use Rattle.units.specs.declared.UnitState.{UnitState}
+use Rattle.units.specs.declared.UnitState.the-variants.{Used}
+use Rattle.units.specs.Unit.{unitState}
+use Rattle.judge.specs.Judgement.{first, unitTests, commandTests, openTests, openReason}
 
 -- a code that no row has is refused with reason 2, whatever the command's length
 pub unknown-refused : (c : List ℕ) → listed (codeOf c) ≡ false → first (commandTests c) ≡ 2
 unfolding commandTests
 unknown-refused c h = rw (h, either-right (eqb (length c) 0) true refl)
+
+-- no entry means unknown, and unknown is turned away: with reason 2, on every used, sound unit, whatever else the command holds
+pub unknown-open : (units : List ℕ) (u : ℕ) (c token : List ℕ) (clock : ℕ) → u ≤ 7 → unitState units u ≡ Used → listed (codeOf c) ≡ false
+    → openReason units u c token clock ≡ 2
+unfolding openReason openTests unitTests commandTests
+unknown-open units u c token clock h s k =
+    rw (le-ltb 7 u h, s, k, either-right (eqb (length c) 0) true refl)

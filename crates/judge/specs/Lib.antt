@@ -5,5 +5,6 @@ pub mod Faults
 pub mod FaultLaws
 pub mod Judgement
 pub mod JudgementLaws
+pub mod OrderLaws
 pub mod Keys
 pub mod Edges

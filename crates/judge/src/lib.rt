@@ -1,11 +1,13 @@
 // The judgement: the faults of a capability, each as document 01 words it, and the first of them that applies.
 mod keys;
+mod order;
 
 pub use keys::chosen_key;
 pub use keys::key_reason;
 pub use keys::validation_tag;
 use model::Need;
 use model::UnitNo;
+pub use order::open_reason;
 use units::UnitState;
 ghost use mathlib.Core.Path.{_≡_};
 ghost use Prim.Native.Nat.{_+_, _≤_, _<_};
