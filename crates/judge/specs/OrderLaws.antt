@@ -183,6 +183,10 @@ module _ (units : List ℕ) (u : ℕ) (c token : List ℕ) (clock : ℕ) (s : Bo
 
 -- ---- 1 to 17
 
+named-append : (xs ys : List Test) → named xs ≡ true → named ys ≡ true → named (xs ++ ys) ≡ true
+named-append [] ys h k = k
+named-append (x ∷ xs) ys h k = let p = both-true (not (eqb (x .reason) 0)) (named xs) h in rw (p .0, named-append xs ys (p .1) k)
+
 unit-named : (units : List ℕ) (u : ℕ) → named (unitTests units u) ≡ true
 unfolding unitTests
 unit-named units u = refl
@@ -239,3 +243,32 @@ module _ (units : List ℕ) (u : ℕ) (c token : List ℕ) (clock : ℕ) where
     open-early n =
         else-first e (orElse (first (guardTests units u c token clock)) (first (pageTests units u c))) n
         ∙ ap (λ (x : ℕ). orElse x (orElse (first (guardTests units u c token clock)) (first (pageTests units u c)))) early-is ∙ open-order
+
+  -- ---- where an open refuses nothing, no test of any group applies
+
+  pub reason-none : openReason units u c token clock ≡ 0
+      → (first (unitTests units u) ≡ 0) × (first (commandTests c) ≡ 0) × (first (guardTests units u c token clock) ≡ 0) × (first (pageTests units u c) ≡ 0)
+  reason-none e =
+      let us = first (unitTests units u) in
+      let cs = first (commandTests c) in
+      let gs = first (guardTests units u c token clock) in
+      let ps = first (pageTests units u c) in
+      let p = or-else-none (orElse us cs) (orElse gs ps) (open-order ∙ e) in
+      let q = or-else-none us cs (p .0) in
+      let r = or-else-none gs ps (p .1) in
+      (q .0, q .1, r .0, r .1)
+
+  pub open-passed : openReason units u c token clock ≡ 0 → Passed units u c
+  open-passed e =
+      let n = reason-none e in
+      let q = unit-passed units u (n .0) in
+      let r = command-passed c (n .1) in
+      record { small = q .0; used = q .1; known = r .0; legal = r .1 }
+
+  -- every test has a reason
+  pub open-named : named (openTests units u c token clock) ≡ true
+  unfolding openTests unitTests commandTests pageTests
+  open-named = named-append (guardTests units u c token clock) (pageTests units u c) guard-named page-named
+    where
+      page-named : named (pageTests units u c) ≡ true
+      page-named = refl

@@ -76,7 +76,7 @@ fn wrong_descriptor(command: &[u8], a: usize, rec: &[u8]) -> bool
 }
 
 // The reason where the test applies, else what the tests after it say.
-fn judged(applies: bool, reason: u8, rest: u8) -> u8
+pub fn judged(applies: bool, reason: u8, rest: u8) -> u8
     ensures { λ r. ⌜ r ≡ pick applies reason rest ⌝ }
 {
     if applies { reason } else { rest }
