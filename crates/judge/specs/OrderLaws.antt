@@ -104,7 +104,7 @@ command-passed c e =
 
 -- ---- the groups one after another
 
-else-first : (r s : ℕ) → (r ≡ 0 → ⊥) → r ≡ orElse r s
+pub else-first : (r s : ℕ) → (r ≡ 0 → ⊥) → r ≡ orElse r s
 else-first r s n = rw (ne-eqb r 0 n)
 
 or-else-assoc : (r s t : ℕ) → orElse r (orElse s t) ≡ orElse (orElse r s) t

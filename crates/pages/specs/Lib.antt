@@ -1,0 +1,8 @@
+-- What the crate's contracts cite: In, Out and Effects hold the meanings, the others laws of them.
+pub mod CopyLaws
+pub mod In
+pub mod InLaws
+pub mod Out
+pub mod OutLaws
+pub mod Effects
+pub mod StepLaws
