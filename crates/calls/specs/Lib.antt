@@ -1,6 +1,11 @@
--- What the crate's contracts cite: Outcome, Build and Slots hold the meanings, the others laws of them.
+-- What the crate's contracts cite: Outcome, Build, Slots, Lent, Open and Close hold the meanings, the others laws of them.
 pub mod Outcome
 pub mod Build
 pub mod Slots
+pub mod Lent
+pub mod Open
+pub mod Close
+pub mod OpenLaws
+pub mod CloseLaws
 pub mod BuildLaws
 pub mod SlotsLaws

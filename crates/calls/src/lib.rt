@@ -1,7 +1,15 @@
 // The calls. None asks anything of its caller; each promise fixes the answer and every lent byte for any input.
+mod closing;
+mod opening;
+
+pub use closing::Closing;
+pub use closing::close;
 use model::Answer;
 use model::SlotNo;
 use model::UnitNo;
+pub use opening::Answered;
+pub use opening::Opening;
+pub use opening::open;
 ghost use mathlib.Core.Path.{_≡_};
 ghost use Rattle.calls.specs.Outcome.{out};
 ghost use Rattle.calls.specs.Build.{buildOut};
