@@ -7,5 +7,7 @@ pub mod Open
 pub mod Close
 pub mod OpenLaws
 pub mod CloseLaws
+pub mod Cases
+pub mod Leaves
 pub mod BuildLaws
 pub mod SlotsLaws

@@ -44,6 +44,11 @@ pub token-is : (n : ℕ) → rightToken n ≡ true → (16 ≤ n) × (n ≤ 64)
 unfolding rightToken
 token-is n e = let p = both-true (leb 16 n) (leb n 64) e in (leb-true 16 n (p .0), leb-true n 64 (p .1))
 
+-- the count is at most the page's size
+pub count-least : (size allocation : ℕ) → countOf size allocation ≤ size
+unfolding countOf
+count-least size allocation = min-le-left size allocation
+
 -- ---- how a plan is made
 
 module _ (slots c : List ℕ) (x : ℕ) (hx : x ≡ codeOf c) (b : Bool) (hb : b ≡ dataOut x) where
@@ -111,12 +116,12 @@ module _ (units slots : List ℕ) (u : ℕ) (c token : List ℕ) (clock : ℕ) w
       (lowest slots s f .0, omega arith)
 
   pub plan-reply : (page n : ℕ) → judgedPlan units slots u c token clock ≡ Reply page n → (u < 8) × (n ≤ sizeOf page)
-  unfolding judgedPlan passedPlan countOf
+  unfolding judgedPlan passedPlan
   plan-reply page n e =
       let p = pick-reply (eqb (openReason units u c token clock) 0) _ _ page n e in
       let q = passed-reply (dataOut (codeOf c)) (isReplied c) (lowestFree slots) (pageOf c) (countOf (sizeOf (pageOf c)) (number 4 6 c)) page n (p .1) in
       let k = open-passed units u c token clock (eqb-true (openReason units u c token clock) 0 (p .0)) in
-      (k .small, rw (sym (q .1), sym (q .0)) (min-le-left (sizeOf (pageOf c)) (number 4 6 c)))
+      (k .small, rw (sym (q .1), sym (q .0)) (count-least (sizeOf (pageOf c)) (number 4 6 c)))
 
 -- ---- how the call goes
 
