@@ -6,5 +6,7 @@ pub mod FaultLaws
 pub mod Judgement
 pub mod JudgementLaws
 pub mod OrderLaws
+pub mod Checked
+pub mod CheckedLaws
 pub mod Keys
 pub mod Edges

@@ -124,7 +124,7 @@ lateReason units u c token =
     first (keyTests (rulesFor (unitAt u units) c) units u (isMaster (needFor c)) (isChange c) (cdbLen (codeOf c)) c token)
 
 module _ (units : List ℕ) (u : ℕ) (c token : List ℕ) (clock : ℕ) where
-  capability-order : orElse (earlyReason (unitAt u units) c clock) (lateReason units u c token) ≡ first (capabilityTests units u c token clock)
+  pub capability-order : orElse (earlyReason (unitAt u units) c clock) (lateReason units u c token) ≡ first (capabilityTests units u c token clock)
   unfolding capabilityTests earlyReason lateReason
   capability-order =
       let form = formTests (rulesFor (unitAt u units) c) (cdbLen (codeOf c)) c in
@@ -203,7 +203,7 @@ pub record Passed (units : List ℕ) (u : ℕ) (c : List ℕ) : Type 0 where
   pub legal : legalLen (codeOf c) (length c) ≡ true
 
 module _ (units : List ℕ) (u : ℕ) (c token : List ℕ) (clock : ℕ) where
-  capability-named : named (capabilityTests units u c token clock) ≡ true
+  pub capability-named : named (capabilityTests units u c token clock) ≡ true
   unfolding capabilityTests formTests factTests keyTests
   capability-named = refl
 

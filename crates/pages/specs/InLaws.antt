@@ -58,7 +58,7 @@ pub attributes-length : (rec keys : List ℕ) → length (attributesPage rec key
 unfolding attributesPage bytesOf
 attributes-length rec keys = refl
 
-pub controlled-page-length : length controlledPage ≡ 190
+controlled-page-length : length controlledPage ≡ 190
 unfolding controlledPage
 controlled-page-length = framed-length 0x0013 controlled ∙ ap (λ (n : ℕ). 4 + n) controlled-length
 

@@ -6,3 +6,7 @@ pub mod Out
 pub mod OutLaws
 pub mod Effects
 pub mod StepLaws
+pub mod BitLaws
+pub mod RecordLaws
+pub mod FieldLaws
+pub mod EffectLaws

@@ -1,24 +1,23 @@
 -- Laws of the parameter lists: a number and a part as loops read them, byte by byte, and what a list that is not wrong has.
-use mathlib.Core.Path.{_≡_, refl, sym, ap, _∙_}
-use mathlib.Core.Bool.{Bool, true, false, not}
+use mathlib.Core.Path.{_≡_, refl, _∙_}
+use mathlib.Core.Bool.{false, not}
 use mathlib.Core.List.{List}
-use Prim.Native.Nat.{ℕ, zero, suc, _+_, _*_, _%_, _^_, _≤_, _<_}
+use Prim.Native.Nat.{ℕ, _+_, _-_, _*_, _%_, _^_, _≤_, _<_}
 use native.Mathlib.Omega.{arith}
-use native.Mathlib.Nat.{pow-suc, add-zero}
+use native.Mathlib.Nat.{pow-suc, pow-le-pow-right, add-zero}
 use native.Mathlib.Numerals.{add-one}
-use lib.ListN.{length, getD, take, drop, length-drop}
+use lib.ListN.{length, getD, drop, length-drop}
 use lib.Seq.{length-take-le, getD-take, getD-drop}
 use lib.Dec.{eqb, ltb}
 use borrow.Author.Tests.{ltb-false}
-use Rattle.choice.specs.Choice.{pick, either}
 use Rattle.choice.specs.ChoiceLaws.{either-false}
 use Rattle.wire.specs.Bytes.{part, number}
 use Rattle.model.specs.Totals.{totalOf}
-use Rattle.pages.specs.Out.{listPage, listLength, newVersion, wrongKey, wrongFields, wrongList}
+use Rattle.pages.specs.Out.{listPage, listLength, newMethod, newVersion, wrongAttributes, wrongKey, wrongFields, wrongList}
 
-pub number-none : (a : ℕ) (l : List ℕ) → 0 ≡ number 0 a l
+pub number-empty : (a : ℕ) (l : List ℕ) → 0 ≡ number 0 a l
 unfolding number
-number-none a l = refl
+number-empty a l = refl
 
 -- one byte more
 pub number-more : (i a : ℕ) (l : List ℕ) (x b : ℕ) → x ≡ number i a l → b ≡ getD l (a + i) 0 → x * 256 + b ≡ number (i + 1) a l
@@ -30,11 +29,7 @@ pub below-more : (i x b : ℕ) → x < 256 ^ i → b < 256 → x * 256 + b < 256
 below-more i x b h k = rw (add-one i, pow-suc 256 i) (omega arith)
 
 pub below-four : (i : ℕ) → i < 4 → 256 ^ i ≤ 16777216
-below-four zero h = omega arith
-below-four (suc zero) h = omega arith
-below-four (suc (suc zero)) h = omega arith
-below-four (suc (suc (suc zero))) h = omega arith
-below-four (suc (suc (suc (suc i)))) h = absurd (omega arith)
+below-four i h = pow-le-pow-right {n = 256} (omega arith) {i = i} {j = 3} (omega arith)
 
 -- ---- a part of a list, read byte by byte
 
@@ -50,14 +45,25 @@ part-byte l a n i x h k e =
 
 -- ---- a list that nothing is wrong with
 
-pub key-list : (page : ℕ) (d : List ℕ) → page ≡ 0x0014 → length d ≡ totalOf page → wrongList page d ≡ false → (length d ≡ 28) × (newVersion d < 16)
-unfolding totalOf wrongList wrongFields wrongKey
-key-list page d e t w =
-    let code = either-false (not (eqb (listPage d) 0x0014)) _ (rw e at w) in
-    let long = either-false (not (eqb (listLength d) 24)) _ (code .1) in
-    let version = either-false (ltb 15 (newVersion d)) _ (long .1) in
-    (rw e at t, omega (arith, ltb-false 15 (newVersion d) (version .0)))
+right-fields : (page : ℕ) (d : List ℕ) → wrongList page d ≡ false → wrongFields page d ≡ false
+unfolding wrongList
+right-fields page d w =
+    either-false (not (eqb (listLength d) (totalOf page - 4))) _ (either-false (not (eqb (listPage d) page)) _ w .1) .1
 
-pub exchange-list : (page : ℕ) (d : List ℕ) → page ≡ 0x0012 → length d ≡ totalOf page → length d ≡ 264
+pub right-method : (page : ℕ) (d : List ℕ) → page ≡ 0x0011 → wrongList page d ≡ false → newMethod d ≤ 1
+unfolding wrongFields wrongAttributes
+right-method page d e w = ltb-false 1 (newMethod d) (either-false (ltb 1 (newMethod d)) _ (rw e at (right-fields page d w)) .0)
+
+pub right-version : (page : ℕ) (d : List ℕ) → page ≡ 0x0014 → wrongList page d ≡ false → newVersion d < 16
+unfolding wrongFields wrongKey
+right-version page d e w =
+    let k = ltb-false 15 (newVersion d) (either-false (ltb 15 (newVersion d)) _ (rw e at (right-fields page d w)) .0) in
+    omega arith
+
+pub key-total : (page n : ℕ) → page ≡ 0x0014 → n ≡ totalOf page → n ≡ 28
 unfolding totalOf
-exchange-list page d e t = rw e at t
+key-total page n e t = rw e at t
+
+pub exchange-total : (page n : ℕ) → page ≡ 0x0012 → n ≡ totalOf page → n ≡ 264
+unfolding totalOf
+exchange-total page n e t = rw e at t

@@ -1,10 +1,10 @@
 -- The writers' steps: what they put into a record one after another is what the definitions of the effects say.
-use mathlib.Core.Path.{_≡_, refl, _∙_, sym, ap}
+use mathlib.Core.Path.{_≡_, refl, _∙_, ap}
 use mathlib.Core.List.{List, [], _∷_, _++_, append-nil}
 use Prim.Native.Nat.{ℕ, zero, suc, _+_, _*_, _%_, _^_, _≤_, _<_}
 use native.Mathlib.Omega.{arith}
 use native.Mathlib.Nat.{pow-le-pow-right}
-use lib.ListN.{length, getD, take, drop, set, replicate, drop-of-length-le}
+use lib.ListN.{length, getD, set, replicate, drop-of-length-le}
 use Rattle.wire.specs.Bytes.{part, bytesOf, patch}
 use Rattle.wire.specs.PatchLaws.{length-patch, patch-join}
 use Rattle.wire.specs.NumberLaws.{bytes-length}
@@ -24,7 +24,7 @@ bit-shifted v h = let k = bit-small v h in omega arith
 
 -- ---- the last byte's lowest bit
 
-pub flip-last : (l : List ℕ) (n : ℕ) → length l ≡ suc n → set l n (flipped (getD l n 0)) ≡ lastFlipped l
+flip-last : (l : List ℕ) (n : ℕ) → length l ≡ suc n → set l n (flipped (getD l n 0)) ≡ lastFlipped l
 flip-last [] n e = absurd (omega arith)
 flip-last (x ∷ []) zero e = refl
 flip-last (x ∷ []) (suc n) e = absurd (omega arith)
@@ -43,7 +43,7 @@ unfolding nextAuth identifier
 next-auth value rec full = ap (hmac bySha1 (genKey rec)) (flip-behind value (part 16 16 rec) (omega (arith, part-length 16 16 rec (omega arith))))
 
 -- a patch of all
-pub patch-all : (d s : List ℕ) → length d ≤ length s → patch d 0 s ≡ s
+patch-all : (d s : List ℕ) → length d ≤ length s → patch d 0 s ≡ s
 unfolding patch
 patch-all d s h = rw (drop-of-length-le d h) (append-nil s)
 

@@ -1,12 +1,12 @@
 -- Two HMACs under one key; the bit that differs is the identifier's, and so the last byte's of S.
-use denote.Ref.{now}
+use mathlib.Core.Path.{_∙_, sym, ap, ap₂}
 use mathlib.Core.List.{List, _++_}
 use Prim.Native.Nat.{ℕ}
-use mathlib.Core.Path.{_∙_, sym, ap, ap₂}
+use denote.Ref.{now}
 use Rattle.hmac.specs.Hmac.{hmac, bySha1}
 use Rattle.units.specs.Unit.{genKey, identifier}
-use Rattle.pages.specs.Out.{agreed}
 use Rattle.pages.specs.Effects.{nextGen}
+use Rattle.pages.specs.Out.{agreed}
 use Rattle.pages.specs.StepLaws.{next-auth}
 use borrow.Author.Needs.{needs}
 use Rattle.pages.proofs.effects.next_pair.Statement.{statement}

@@ -1,8 +1,7 @@
--- Each arm's page picks its record; a list that nothing is wrong with is long enough and names a version.
-use denote.Ref.{now}
+-- Each arm's page picks its record; a list that nothing is wrong with has its page's length and a version below 16.
 use borrow.Author.Tests.{ne-eqb}
-use Rattle.pages.specs.OutLaws.{key-list, exchange-list}
 use Rattle.pages.specs.Effects.{newRecord}
+use Rattle.pages.specs.OutLaws.{right-version, key-total, exchange-total}
 use borrow.Author.Needs.{needs}
 use Rattle.pages.proofs.effects.obey.Statement.{statement}
 use Rattle.pages.proofs.effects.obey.Tie as tie
@@ -13,13 +12,13 @@ set-attributes-requires c κs = search needs
 set-key-requires : tie.Need-set-key-requires
 set-key-requires c κs =
     let s = c .before .before .before .before in
-    let l = key-list (s .args .page) (now (s .args .list)) (c .before .match .keys2) (s .pre .1) (s .pre .2) in
-    (s .pre .0, l .0, l .1)
+    let e = c .before .match .keys2 in
+    (s .pre .0, key-total _ _ e (s .pre .1), right-version _ _ e (s .pre .2))
 
 exchange-requires : tie.Need-exchange-requires
 exchange-requires c κs =
     let s = c .before .before .before .before in
-    (s .pre .0, exchange-list (s .args .page) (now (s .args .list)) (c .before .match .keys3) (s .pre .1))
+    (s .pre .0, exchange-total _ _ (c .before .match .keys3) (s .pre .1))
 
 change-requires : tie.Need-change-requires
 change-requires c κs = search needs

@@ -3,12 +3,12 @@ use mathlib.Core.Path.{_≡_, refl, _∙_}
 use mathlib.Core.List.{_++_}
 use Prim.Native.Nat.{_≤_, _-_, _+_}
 use native.Mathlib.Omega.{arith}
-use borrow.Author.Needs.{needs}
 use denote.Ref.{now}
 use lib.ListN.{length, take, drop, length-set}
 use Rattle.wire.specs.Bytes.{part}
 use Rattle.pages.specs.CopyLaws.{copy-more, copy-all}
 use Rattle.pages.specs.OutLaws.{part-length, part-byte}
+use borrow.Author.Needs.{needs}
 use Rattle.pages.proofs.lists.copy.Statement.{statement}
 use Rattle.pages.proofs.lists.copy.Tie as tie
 

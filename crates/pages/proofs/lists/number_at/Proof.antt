@@ -2,9 +2,9 @@
 use mathlib.Core.Path.{_≡_}
 use Prim.Native.Nat.{_≤_, _<_, _-_, _^_}
 use native.Mathlib.Omega.{arith}
-use borrow.Author.Needs.{needs}
 use Rattle.wire.specs.Bytes.{number}
-use Rattle.pages.specs.OutLaws.{number-none, number-more, below-more, below-four}
+use Rattle.pages.specs.OutLaws.{number-empty, number-more, below-more, below-four}
+use borrow.Author.Needs.{needs}
 use Rattle.pages.proofs.lists.number_at.Statement.{statement}
 use Rattle.pages.proofs.lists.number_at.Tie as tie
 
@@ -15,7 +15,7 @@ abbrev μ-loop : tie.MeasureT-loop
 μ-loop list at n x₀ i₀ x i = n - i
 
 loop-holds : tie.Need-loop-holds Inv-loop μ-loop
-loop-holds c = (omega arith, omega arith, number-none _ _)
+loop-holds c = (omega arith, omega arith, number-empty _ _)
 
 mul-x : tie.Need-mul-x Inv-loop μ-loop
 mul-x c = omega (arith, below-four (c .before .loop .i) (omega arith))

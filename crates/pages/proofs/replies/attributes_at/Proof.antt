@@ -1,13 +1,12 @@
 -- The twelve bytes are those of the numbers that were read; past them the default stands.
-use Rattle.pages.specs.InLaws.{attributes-length, attributes-at}
-use denote.Ref.{now}
 use mathlib.Core.Path.{sym}
 use native.Mathlib.Omega.{arith}
+use denote.Ref.{now}
 use lib.ListN.{List·getD-eq-default}
 use Rattle.wire.specs.Bytes.{bytesOf}
 use Rattle.units.specs.Unit.{method, policyTag, mask}
 use Rattle.pages.specs.In.{attributesPage}
-use Rattle.pages.specs.InLaws.{attributes-length}
+use Rattle.pages.specs.InLaws.{attributes-length, attributes-at}
 use borrow.Author.Needs.{needs}
 use Rattle.pages.proofs.replies.attributes_at.Statement.{statement}
 use Rattle.pages.proofs.replies.attributes_at.Tie as tie

@@ -1,15 +1,14 @@
 -- A copy of as many bytes as the count says.
-use mathlib.Core.List.{_++_}
-use lib.ListN.{length, take, drop, length-set}
-use Rattle.pages.specs.CopyLaws.{copy-more, copy-patch}
-use Rattle.pages.specs.InLaws.{page-size, size-small}
 use mathlib.Core.Path.{_≡_, _∙_, refl}
-use mathlib.Core.Path.{_≡_}
+use mathlib.Core.List.{_++_}
 use Prim.Native.Nat.{_≤_, _-_}
 use native.Mathlib.Omega.{arith}
-use borrow.Author.Needs.{needs}
 use denote.Ref.{now}
+use lib.ListN.{length, take, drop, length-set}
+use Rattle.pages.specs.CopyLaws.{copy-more, copy-patch}
 use Rattle.pages.specs.In.{inPage}
+use Rattle.pages.specs.InLaws.{page-size, size-small}
+use borrow.Author.Needs.{needs}
 use Rattle.pages.proofs.replies.write_page.Statement.{statement}
 use Rattle.pages.proofs.replies.write_page.Tie as tie
 
