@@ -104,3 +104,102 @@ module _ (units : List ℕ) (u : ℕ) (c token : List ℕ) (clock : ℕ) (none :
       bare-false : (b : Bool) → both b true ≡ false → b ≡ false
       bare-false true e = e
       bare-false false e = refl
+
+  a : ℕ
+  a = cdbLen (codeOf c)
+
+  rec : List ℕ
+  rec = unitAt u units
+
+  v : ℕ
+  v = keyVersion (cdbLen (codeOf c)) c
+
+  m : Bool
+  m = isMaster (needFor c)
+
+  groups : (earlyReason (unitAt u units) c clock ≡ 0) × (lateReason units u c token ≡ 0)
+  groups = or-else-none (earlyReason (unitAt u units) c clock) (lateReason units u c token) (capability-order units u c token clock ∙ guard-none .1)
+
+  early : (first (formTests true a c) ≡ 0) × (first (factTests (bitsNeeded (needFor c)) rec a c clock) ≡ 0)
+  unfolding earlyReason a rec
+  early =
+      or-else-none (first (formTests true (cdbLen (codeOf c)) c)) (first (factTests (bitsNeeded (needFor c)) (unitAt u units) (cdbLen (codeOf c)) c clock))
+      (rw rules at (groups .0))
+
+  late : first (keyTests true units u m (isChange c) a c token) ≡ 0
+  unfolding lateReason a m
+  late = rw rules at (groups .1)
+
+  forms : (format a c ≡ 1) × (capMethod a c ≡ 1) × (algorithm a c ≡ 1)
+  unfolding formTests
+  forms =
+      let t8 = test 8 (wrongMethod true (capMethod a c)) in
+      let t9 = test 9 (wrongAlgorithm true (algorithm a c)) in
+      let p = first-none (test 7 (wrongFormat (format a c))) (t8 ∷ t9 ∷ []) refl (early .0) in
+      let q = first-none t8 (t9 ∷ []) refl (p .1) in
+      let r = first-none t9 [] refl (q .1) in
+      (format-passed (format a c) (p .0), method-passed (capMethod a c) (q .0), algorithm-passed (algorithm a c) (r .0))
+
+  -- the four facts
+  record Facts : Type 0 where
+    pub time : (expiration a c ≡ 0) ⊎ (clock ≤ expiration a c)
+    pub permitted : bits 8 min (bitsNeeded (needFor c)) (permissions a c) ≡ bitsNeeded (needFor c)
+    pub tagged : (capTag a c ≡ 0) ⊎ (capTag a c ≡ policyTag rec)
+    pub described : (descriptorType a c ≡ 1) × (descriptorLength a c ≡ 16) × (descriptorId a c ≡ identifier rec)
+
+  facts : Facts
+  unfolding factTests
+  facts =
+      let t11 = test 11 (lacksBits (bitsNeeded (needFor c)) (permissions a c)) in
+      let t12 = test 12 (wrongTag (capTag a c) (policyTag rec)) in
+      let t13 = test 13 (wrongDescriptor (descriptorType a c) (descriptorLength a c) (descriptorId a c) (identifier rec)) in
+      let p = first-none (test 10 (expired (expiration a c) clock)) (t11 ∷ t12 ∷ t13 ∷ []) refl (early .1) in
+      let q = first-none t11 (t12 ∷ t13 ∷ []) refl (p .1) in
+      let r = first-none t12 (t13 ∷ []) refl (q .1) in
+      let s = first-none t13 [] refl (r .1) in
+      record {
+        time = time-passed (expiration a c) clock (p .0);
+        permitted = bits-passed (bitsNeeded (needFor c)) (permissions a c) (q .0);
+        tagged = tag-passed (capTag a c) (policyTag rec) (r .0);
+        described = descriptor-passed (descriptorType a c) (descriptorLength a c) (descriptorId a c) (identifier rec) (s .0);
+      }
+
+  keys : (keyFound units u m (isChange c) v ≡ true) × (validationTag (keyUsed units u m (isChange c) v) a c token ≡ checkValue a c)
+  unfolding keyTests v a
+  keys =
+      let t15 = test 15 (not (same (validationTag (keyUsed units u m (isChange c) v) a c token) (checkValue a c))) in
+      let p = first-none (test 14 (not (keyFound units u m (isChange c) v))) (t15 ∷ []) refl late in
+      let q = first-none t15 [] refl (p .1) in
+      (off _ (p .0), same-true _ _ (off _ (q .0)))
+
+  -- a key was found
+  pub guarded-key : keyFound units u (isMaster (needFor c)) (isChange c) (keyVersion (behindCdb c) c) ≡ true
+  unfolding a m v
+  guarded-key = keys .0
+
+  long : length c ≡ cdbLen (codeOf c) + 78
+  unfolding legalLen isBare
+  long = exact (eqb (cdbLen (codeOf c)) 0) (eqb (length c) (cdbLen (codeOf c) + 78)) refl (rw guarded-wrapped at (open-passed units u c token clock none .legal))
+    where
+      exact : (z w : Bool) → eqb (length c) (cdbLen (codeOf c) + 78) ≡ w → pick z false w ≡ true → length c ≡ cdbLen (codeOf c) + 78
+      exact true w e k = let z : _≡_ {A = ℕ} 0 1 = cc in absurd (omega arith)
+      exact false true e k = eqb-true (length c) (cdbLen (codeOf c) + 78) e
+      exact false false e k = let z : _≡_ {A = ℕ} 0 1 = cc in absurd (omega arith)
+
+  -- and under it every check was passed
+  pub guarded-checked : Checked (unitAt u units) (keyUsed units u (isMaster (needFor c)) (isChange c) (keyVersion (behindCdb c) c)) c token clock
+  unfolding a m v rec validationTag capabilityKey checkValue
+  guarded-checked =
+      record {
+        wrapped = long;
+        format-1 = forms .0;
+        capkey = forms .1;
+        algorithm-1 = forms .2;
+        unexpired = facts .time;
+        permitted = facts .permitted;
+        tagged = facts .tagged;
+        type-1 = facts .described .0;
+        length-16 = facts .described .1;
+        names-unit = facts .described .2;
+        verifies = sym (keys .1);
+      }
