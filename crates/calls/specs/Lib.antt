@@ -7,7 +7,9 @@ pub mod Open
 pub mod Close
 pub mod OpenLaws
 pub mod CloseLaws
+pub mod Answers
 pub mod Cases
 pub mod Leaves
+pub mod Named
 pub mod BuildLaws
 pub mod SlotsLaws
