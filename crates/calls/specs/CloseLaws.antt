@@ -34,7 +34,7 @@ use Rattle.calls.specs.declared.closing.Closing.the-variants.{Keep, End,
 -- ---- the reason: that of an open, and where there is none that of the list
 
 module _ (units : List ℕ) (u : ℕ) (c token d : List ℕ) (clock : ℕ) where
-  close-order : orElse (openReason units u c token clock) (first (listTests c d)) ≡ closeReason units u c token d clock
+  pub close-order : orElse (openReason units u c token clock) (first (listTests c d)) ≡ closeReason units u c token d clock
   unfolding openReason closeReason
   close-order = sym (first-append (openTests units u c token clock) (listTests c d) (open-named units u c token clock))
 

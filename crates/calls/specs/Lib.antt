@@ -11,5 +11,7 @@ pub mod Answers
 pub mod Cases
 pub mod Leaves
 pub mod Named
+pub mod Whole
+pub mod WholeLaws
 pub mod BuildLaws
 pub mod SlotsLaws
