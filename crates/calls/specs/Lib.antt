@@ -13,5 +13,7 @@ pub mod Leaves
 pub mod Named
 pub mod Whole
 pub mod WholeLaws
+pub mod WholeCases
+pub mod Run
 pub mod BuildLaws
 pub mod SlotsLaws

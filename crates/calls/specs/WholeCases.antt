@@ -1,0 +1,118 @@
+-- The cases of a whole command, and what every one of them has: a final answer, as many written bytes as its count says, a unit table of
+-- the same length, every other unit's record as it was, and its own sound again.
+use mathlib.Core.Path.{_≡_, refl, sym, ap, _∙_}
+use mathlib.Core.Bool.{Bool, true, false, not}
+use mathlib.Core.List.{List, []}
+use Prim.Native.Nat.{ℕ, _*_, _+_, _≤_, _<_}
+use native.Mathlib.Omega.{arith}
+use lib.Dec.{eqb}
+use lib.ListN.{length, take, drop, length-drop}
+use lib.Seq.{length-take-le}
+use borrow.Author.Tests.{eqb-true, eqb-false}
+use Rattle.choice.specs.Choice.{pick}
+use Rattle.wire.specs.Bytes.{number, part, patch}
+use Rattle.wire.specs.PatchLaws.{record-here, record-other, record-length}
+use Rattle.model.specs.Refusal.{refusal}
+use Rattle.model.specs.Totals.{totalOf}
+use Rattle.model.specs.declared.Answer.{Answer}
+use Rattle.model.specs.declared.Answer.the-variants.{Good, Run}
+use Rattle.units.specs.declared.UnitState.{UnitState}
+use Rattle.units.specs.declared.UnitState.the-variants.{Used}
+use Rattle.units.specs.Unit.{unitAt, keySetOf, unitState, unitStateOf}
+use Rattle.judge.specs.Command.{codeOf, pageOf}
+use Rattle.judge.specs.Judgement.{openReason}
+use Rattle.judge.specs.OrderLaws.{Passed, open-passed}
+use Rattle.pages.specs.In.{inPage, sizeOf, countOf}
+use Rattle.pages.specs.InLaws.{page-size}
+use Rattle.pages.specs.Out.{wrongList}
+use Rattle.pages.specs.Effects.{newRecord}
+use Rattle.pages.specs.EffectLaws.{new-length, new-used}
+use Rattle.calls.specs.Open.{isReplied}
+use Rattle.calls.specs.OpenLaws.{count-least}
+use Rattle.calls.specs.Close.{closeReason}
+use Rattle.calls.specs.CloseLaws.{close-none, list-passed}
+use Rattle.calls.specs.Answers.{isFinal, countIn}
+use Rattle.calls.specs.Whole.{Asked, Whole, whole-of, replied, obeyed, passedWhole, whole}
+
+pick-cases : {A : Type 0} (P : A → Type 0) (b : Bool) (x y : A) → (b ≡ true → P x) → (b ≡ false → P y) → P (pick b x y)
+pick-cases P true x y p q = p refl
+pick-cases P false x y p q = q refl
+
+module _ (units : List ℕ) (k : Asked) (d : List ℕ) (clock : ℕ) where
+  -- the reason that a whole command is refused for
+  abbrev pub wholeReason : ℕ
+  wholeReason = closeReason units (k .unit) (k .command) (k .token) d clock
+
+  pub whole-cases : (P : Whole → Type 0)
+      → ((wholeReason ≡ 0 → ⊥) → P (whole-of (refusal wholeReason) units []))
+      → (wholeReason ≡ 0 → eqb (codeOf (k .command)) 0xB5 ≡ true → P (whole-of (Good 0) (obeyed units (k .unit) (k .command) d) []))
+      → (wholeReason ≡ 0 → eqb (codeOf (k .command)) 0xB5 ≡ false → isReplied (k .command) ≡ true
+      → P (whole-of (Good (countOf (sizeOf (pageOf (k .command))) (number 4 6 (k .command)))) units (replied units (k .unit) (k .command))))
+      → (wholeReason ≡ 0 → eqb (codeOf (k .command)) 0xB5 ≡ false → isReplied (k .command) ≡ false → P (whole-of Run units []))
+      → P (whole units k d clock)
+  unfolding whole passedWhole
+  whole-cases P refused obeys replies runs =
+      pick-cases P (eqb wholeReason 0) _ _
+      (λ e. let z = eqb-true wholeReason 0 e in
+      pick-cases P (eqb (codeOf (k .command)) 0xB5) _ _ (obeys z) (λ f. pick-cases P (isReplied (k .command)) _ _ (replies z f) (runs z f)))
+      (λ e. refused (eqb-false wholeReason 0 e))
+
+  pub whole-final : isFinal (whole units k d clock .answer) ≡ true
+  unfolding refusal
+  whole-final = whole-cases (λ (w : Whole). isFinal (w .answer) ≡ true) (λ n. refl) (λ z t. refl) (λ z f r. refl) (λ z f r. refl)
+
+  pub whole-written : length (whole units k d clock .written) ≡ countIn (whole units k d clock .answer)
+  unfolding refusal
+  whole-written =
+      whole-cases (λ (w : Whole). length (w .written) ≡ countIn (w .answer)) (λ n. refl) (λ z t. refl)
+      (λ z f r. length-take-le _ (inPage (pageOf (k .command)) (unitAt (k .unit) units) (keySetOf units (k .unit)))
+      (rw (page-size (pageOf (k .command)) (unitAt (k .unit) units) (keySetOf units (k .unit))) (count-least (sizeOf (pageOf (k .command))) (number 4 6 (k .command)))))
+      (λ z f r. refl)
+
+  -- ---- the unit table
+
+  module _ (full : length units ≡ 4096) where
+    -- what is known where an Out page is obeyed
+    pub record Obeys : Type 0 where
+      pub small : k .unit < 8
+      pub used : unitState units (k .unit) ≡ Used
+      pub total : length d ≡ totalOf (pageOf (k .command))
+      pub right : wrongList (pageOf (k .command)) d ≡ false
+
+    pub obeys : wholeReason ≡ 0 → eqb (codeOf (k .command)) 0xB5 ≡ true → Obeys
+    obeys z t =
+        let p = open-passed units (k .unit) (k .command) (k .token) clock (close-none units (k .unit) (k .command) (k .token) d clock z .0) in
+        let q = list-passed units (k .unit) (k .command) (k .token) d clock z t in
+        record { small = p .small; used = p .used; total = q .0; right = q .1 }
+
+    rec-full : k .unit < 8 → length (unitAt (k .unit) units) ≡ 512
+    rec-full h = length-take-le 512 (drop (k .unit * 512) units) (rw length-drop (omega arith))
+
+    new-full : Obeys → length (newRecord (pageOf (k .command)) d (unitAt (k .unit) units)) ≡ 512
+    new-full o = new-length (pageOf (k .command)) d (unitAt (k .unit) units) (o .right) (rec-full (o .small))
+
+    pub whole-length : length (whole units k d clock .units) ≡ 4096
+    whole-length =
+        whole-cases (λ (w : Whole). length (w .units) ≡ 4096) (λ n. full)
+        (λ z t. let o = obeys z t in let h = o .small in record-length units (k .unit) _ (new-full o) (omega arith) ∙ full)
+        (λ z f r. full) (λ z f r. full)
+
+    -- no byte of another unit's record
+    pub whole-others : (v : ℕ) → (k .unit ≡ v → ⊥) → unitAt v (whole units k d clock .units) ≡ unitAt v units
+    whole-others v ne =
+        whole-cases (λ (w : Whole). unitAt v (w .units) ≡ unitAt v units) (λ n. refl)
+        (λ z t. let o = obeys z t in let h = o .small in record-other units (k .unit) _ (new-full o) (omega arith) v ne)
+        (λ z f r. refl) (λ z f r. refl)
+
+    -- an Out page that is obeyed makes the unit's record anew
+    pub obeyed-here : (o : Obeys) → unitAt (k .unit) (obeyed units (k .unit) (k .command) d) ≡ newRecord (pageOf (k .command)) d (unitAt (k .unit) units)
+    obeyed-here o = let h = o .small in record-here units (k .unit) _ (new-full o) (omega arith)
+
+    -- its own unit, where it was sound and used, is again
+    pub whole-used : unitState units (k .unit) ≡ Used → unitState (whole units k d clock .units) (k .unit) ≡ Used
+    unfolding unitState
+    whole-used s =
+        whole-cases (λ (w : Whole). unitStateOf (k .unit) (unitAt (k .unit) (w .units)) ≡ Used) (λ n. s)
+        (λ z t. let o = obeys z t in
+        ap (unitStateOf (k .unit)) (obeyed-here o) ∙ new-used (pageOf (k .command)) d (unitAt (k .unit) units) (o .right) (rec-full (o .small)) (k .unit) s)
+        (λ z f r. s) (λ z f r. s)
