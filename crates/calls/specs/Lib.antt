@@ -15,5 +15,6 @@ pub mod Whole
 pub mod WholeLaws
 pub mod WholeCases
 pub mod Run
+pub mod StepLaws
 pub mod BuildLaws
 pub mod SlotsLaws
