@@ -8,6 +8,7 @@ use Prim.Native.Nat.{ℕ, _+_, _<_}
 use lib.Dec.{eqb}
 use lib.ListN.{length, take}
 use Rattle.choice.specs.Choice.{pick}
+use Rattle.wire.specs.Bytes.{patch}
 use Rattle.model.specs.declared.Answer.{Answer}
 use Rattle.model.specs.declared.Answer.the-variants.{Good, Parked, Run, Check, Full, H1, H2, H3, H4, H5}
 use Rattle.slots.specs.Slot.{slotAt, slotStateOf}
@@ -161,6 +162,13 @@ Singly us (x ∷ xs) ns =
     (whole us (x .what) (x .sent) (x .clock) .answer ≡ x .answer)
     × (whole us (x .what) (x .sent) (x .clock) .written ≡ x .written)
     × Singly (whole us (x .what) (x .sent) (x .clock) .units) xs ns
+
+-- an open or close writes no more of its reply buffer than the count of its answer says, at the front; abort and reset have none
+abbrev pub KeepsReply : Call → Answer → List ℕ → Type 0
+KeepsReply (opens k clock reply) a r = r ≡ patch reply 0 (take (countIn a) r)
+KeepsReply (closes s d clock reply) a r = r ≡ patch reply 0 (take (countIn a) r)
+KeepsReply (aborts s) a r = r ≡ []
+KeepsReply resets a r = r ≡ []
 
 -- how many of the events are an A0, A2 or A3 to an open or close
 abbrev pub finalIn : Call → Answer → ℕ

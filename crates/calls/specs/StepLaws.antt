@@ -43,7 +43,7 @@ use Rattle.calls.specs.Cases.{Opens, Closes}
 use Rattle.calls.specs.Whole.{Asked, asked, Whole, whole}
 use Rattle.calls.specs.WholeLaws.{openedWhole, closedWhole, parks, heldBy, open-whole, close-whole}
 use Rattle.calls.specs.WholeCases.{whole-final, whole-written, whole-length}
-use Rattle.calls.specs.Run.{Tables, tables, Call, opens, closes, aborts, resets, Event, event, Meets, Ledger, put, entered, after, View, vacant, held, damaged, viewBy, view, toView, Agrees, done, doneBy, doneIn, Singly, finalIn}
+use Rattle.calls.specs.Run.{Tables, tables, Call, opens, closes, aborts, resets, Event, event, Meets, Ledger, put, entered, after, View, vacant, held, damaged, viewBy, view, toView, Agrees, done, doneBy, doneIn, Singly, KeepsReply, finalIn}
 
 -- ---- an open goes one of five ways, and a close one of three
 
@@ -141,6 +141,7 @@ pub record Stepped (t : Tables) (ledger : Ledger) (e : Event) (n : Tables) : Typ
   pub fits : Fits n (after ledger (e .call) (e .answer))
   pub singly : Singly (t .units) (doneIn ledger (e .call) (e .answer) (e .reply)) (n .units)
   pub counted : length (doneIn ledger (e .call) (e .answer) (e .reply)) ≡ finalIn (e .call) (e .answer)
+  pub reply-kept : KeepsReply (e .call) (e .answer) (e .reply)
 
 -- an outcome that is known tells the answer, the tables and the reply
 module _ (t : Tables) (ledger : Ledger) (k : Call) (a : Answer) (r : List ℕ) (n : Tables) where
@@ -173,6 +174,15 @@ pub written-front : (reply ws : List ℕ) (n : ℕ) → length ws ≡ n → take
 unfolding patch
 written-front reply ws n e = take-at ws (drop (length ws) reply) n e
 
+front-kept : (us : List ℕ) (k : Asked) (d : List ℕ) (clock : ℕ) (reply : List ℕ)
+    → patch reply 0 (whole us k d clock .written)
+    ≡ patch reply 0 (take (countIn (whole us k d clock .answer)) (patch reply 0 (whole us k d clock .written)))
+front-kept us k d clock reply = ap (patch reply 0) (sym (written-front reply (whole us k d clock .written) _ (whole-written us k d clock)))
+
+none-written : (reply : List ℕ) (n : ℕ) → n ≡ 0 → reply ≡ patch reply 0 (take n reply)
+unfolding patch
+none-written reply n e = rw e
+
 -- the whole command, and what its step shows of it
 whole-singly : (us : List ℕ) (k : Asked) (d : List ℕ) (clock : ℕ) (reply : List ℕ)
     → Singly us (done k d clock (whole us k d clock .answer) (take (countIn (whole us k d clock .answer)) (patch reply 0 (whole us k d clock .written))) ∷ []) (whole us k d clock .units)
@@ -193,6 +203,7 @@ module _ (t : Tables) (ledger : Ledger) (fit : Fits t ledger) where
           fits = rw (final-entered ledger k (whole (t .units) k [] clock .answer) f) (record { units-length = whole-length (t .units) k [] clock (fit .units-length); slots-length = fit .slots-length; agrees = fit .agrees });
           singly = rw f (whole-singly (t .units) k [] clock reply);
           counted = rw f;
+          reply-kept = front-kept (t .units) k [] clock reply;
         }
 
     parked-step : Opens l (k .unit) (k .command) (k .token) clock → dataOut (codeOf (k .command)) ≡ true → (s : SlotNo) → lowestFree (t .slots) ≡ At s
@@ -217,21 +228,22 @@ module _ (t : Tables) (ledger : Ledger) (fit : Fits t ledger) where
               };
           singly = refl;
           counted = refl;
+          reply-kept = none-written reply 0 refl;
         }
 
     -- an answer that is none to a command
-    quiet : (a : Answer) → isFinal a ≡ false → entered ledger k a ≡ ledger → Stepped t ledger (event (opens k clock reply) a reply) t
-    quiet a f e = record { fits = rw e fit; singly = rw f; counted = rw f }
+    quiet : (a : Answer) → isFinal a ≡ false → countIn a ≡ 0 → entered ledger k a ≡ ledger → Stepped t ledger (event (opens k clock reply) a reply) t
+    quiet a f z e = record { fits = rw e fit; singly = rw f; counted = rw f; reply-kept = none-written reply (countIn a) z }
 
     pub open-step : (a : Answer) (r : List ℕ) (n : Tables) → gives a (lent (n .units) (n .slots) r) ≡ openOut l (k .unit) (k .command) (k .token) clock
         → Stepped t ledger (event (opens k clock reply) a r) n
     open-step a r n =
         open-by l k clock (λ (o : Outcome). gives a (lent (n .units) (n .slots) r) ≡ o → Stepped t ledger (event (opens k clock reply) a r) n)
-        (λ h e. told t ledger (opens k clock reply) a r n H1 _ _ _ e (quiet H1 refl refl))
-        (λ h e. told t ledger (opens k clock reply) a r n H2 _ _ _ e (quiet H2 refl refl))
+        (λ h e. told t ledger (opens k clock reply) a r n H1 _ _ _ e (quiet H1 refl refl refl))
+        (λ h e. told t ledger (opens k clock reply) a r n H2 _ _ _ e (quiet H2 refl refl refl))
         (λ h g p e. told t ledger (opens k clock reply) a r n _ _ _ _ e answered)
         (λ o d s f e. told t ledger (opens k clock reply) a r n (Parked s) _ _ _ e (parked-step o d s f))
-        (λ o d f e. told t ledger (opens k clock reply) a r n Full _ _ _ e (quiet Full refl refl))
+        (λ o d f e. told t ledger (opens k clock reply) a r n Full _ _ _ e (quiet Full refl refl refl))
 
   -- ---- a slot that is freed
 
@@ -248,8 +260,8 @@ module _ (t : Tables) (ledger : Ledger) (fit : Fits t ledger) where
   -- ---- a close
 
   module _ (s : ℕ) (d : List ℕ) (clock : ℕ) (reply : List ℕ) where
-    kept : (a : Answer) → isFinal a ≡ false → Stepped t ledger (event (closes s d clock reply) a reply) t
-    kept a f = record { fits = rw f fit; singly = rw f; counted = rw f }
+    kept : (a : Answer) → isFinal a ≡ false → countIn a ≡ 0 → Stepped t ledger (event (closes s d clock reply) a reply) t
+    kept a f z = record { fits = rw f fit; singly = rw f; counted = rw f; reply-kept = none-written reply (countIn a) z }
 
     closed : Closes (lent (t .units) (t .slots) reply) s
         → Stepped t ledger
@@ -265,14 +277,15 @@ module _ (t : Tables) (ledger : Ledger) (fit : Fits t ledger) where
           fits = rw f (freed-fits s (omega arith) _ (whole-length (t .units) (heldBy rec) d clock (fit .units-length)));
           singly = rw (f, here) (whole-singly (t .units) (heldBy rec) d clock reply);
           counted = rw (f, here);
+          reply-kept = front-kept (t .units) (heldBy rec) d clock reply;
         }
 
     pub close-step : (a : Answer) (r : List ℕ) (n : Tables) → gives a (lent (n .units) (n .slots) r) ≡ closeOut (lent (t .units) (t .slots) reply) s d clock
         → Stepped t ledger (event (closes s d clock reply) a r) n
     close-step a r n =
         close-by (lent (t .units) (t .slots) reply) s d clock (λ (o : Outcome). gives a (lent (n .units) (n .slots) r) ≡ o → Stepped t ledger (event (closes s d clock reply) a r) n)
-        (λ h e. told t ledger (closes s d clock reply) a r n H1 _ _ _ e (kept H1 refl))
-        (λ e. told t ledger (closes s d clock reply) a r n H3 _ _ _ e (kept H3 refl))
+        (λ h e. told t ledger (closes s d clock reply) a r n H1 _ _ _ e (kept H1 refl refl))
+        (λ e. told t ledger (closes s d clock reply) a r n H3 _ _ _ e (kept H3 refl refl))
         (λ o e. told t ledger (closes s d clock reply) a r n _ _ _ _ e (closed o))
 
   -- ---- an abort and a reset
@@ -284,22 +297,22 @@ module _ (t : Tables) (ledger : Ledger) (fit : Fits t ledger) where
       let et : tables (t .units) ss ≡ n = ap₂ tables (sym eu) (sym (p .1)) in
       subst (λ (x : Answer). Stepped t ledger (event k x r) n) (sym (p .0)) (subst (λ (x : Tables). Stepped t ledger (event k b r) x) et h)
 
-  pub abort-step : (s : ℕ) (a : Answer) (r : List ℕ) (n : Tables) → out a (n .slots) ≡ abortOut (t .slots) s → n .units ≡ t .units
+  pub abort-step : (s : ℕ) (a : Answer) (r : List ℕ) (n : Tables) → out a (n .slots) ≡ abortOut (t .slots) s → n .units ≡ t .units → r ≡ []
       → Stepped t ledger (event (aborts s) a r) n
   unfolding abortOut
-  abort-step s a r n e eu = by-cases (both (leb s 15) (isOpen (slotStateOf (slotAt s (t .slots))))) refl (rw (eq-eqb _ _ (fit .slots-length)) at e)
+  abort-step s a r n e eu er = by-cases (both (leb s 15) (isOpen (slotStateOf (slotAt s (t .slots))))) refl (rw (eq-eqb _ _ (fit .slots-length)) at e)
     where
       by-cases : (b : Bool) → both (leb s 15) (isOpen (slotStateOf (slotAt s (t .slots)))) ≡ b
           → out a (n .slots) ≡ pick b (out (Good 0) (freed s (t .slots))) (out H3 (t .slots)) → Stepped t ledger (event (aborts s) a r) n
       by-cases true q h =
           let small : s ≤ 15 = leb-true s 15 (both-true (leb s 15) (isOpen (slotStateOf (slotAt s (t .slots)))) q .0) in
           told-slots (aborts s) a r n (Good 0) (freed s (t .slots)) h eu
-          (record { fits = freed-fits s (omega arith) (t .units) (fit .units-length); singly = refl; counted = refl })
-      by-cases false q h = told-slots (aborts s) a r n H3 (t .slots) h eu (record { fits = fit; singly = refl; counted = refl })
+          (record { fits = freed-fits s (omega arith) (t .units) (fit .units-length); singly = refl; counted = refl; reply-kept = er })
+      by-cases false q h = told-slots (aborts s) a r n H3 (t .slots) h eu (record { fits = fit; singly = refl; counted = refl; reply-kept = er })
 
-  pub reset-step : (a : Answer) (r : List ℕ) (n : Tables) → out a (n .slots) ≡ resetOut (t .slots) → n .units ≡ t .units → Stepped t ledger (event resets a r) n
+  pub reset-step : (a : Answer) (r : List ℕ) (n : Tables) → out a (n .slots) ≡ resetOut (t .slots) → n .units ≡ t .units → r ≡ [] → Stepped t ledger (event resets a r) n
   unfolding resetOut
-  reset-step a r n e eu =
+  reset-step a r n e eu er =
       told-slots resets a r n (Good 0) (allFreed (t .slots)) (rw (eq-eqb _ _ (fit .slots-length)) at e) eu
       (record {
         fits =
@@ -310,6 +323,7 @@ module _ (t : Tables) (ledger : Ledger) (fit : Fits t ledger) where
             };
         singly = refl;
         counted = refl;
+        reply-kept = er;
       })
 
   -- ---- any call
@@ -317,5 +331,5 @@ module _ (t : Tables) (ledger : Ledger) (fit : Fits t ledger) where
   pub step : (k : Call) (a : Answer) (r : List ℕ) (n : Tables) → Meets t k a r n → Stepped t ledger (event k a r) n
   step (opens k clock reply) a r n e = open-step k clock reply a r n e
   step (closes s d clock reply) a r n e = close-step s d clock reply a r n e
-  step (aborts s) a r n e = abort-step s a r n (e .0) (e .1)
-  step resets a r n e = reset-step a r n (e .0) (e .1)
+  step (aborts s) a r n e = abort-step s a r n (e .0) (e .1) (e .2)
+  step resets a r n e = reset-step a r n (e .0) (e .1) (e .2)

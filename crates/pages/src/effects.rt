@@ -1,6 +1,6 @@
 // What a GOOD Out page makes of a unit's record.
 use super::lists::copy;
-use super::lists::field;
+use super::reader::field;
 ghost use mathlib.Core.Path.{_≡_};
 ghost use mathlib.Core.List.{_++_};
 ghost use mathlib.Core.Bool.{false};

@@ -2,6 +2,7 @@
 // list, and what a GOOD one makes of a unit's record.
 mod effects;
 mod lists;
+mod reader;
 mod replies;
 
 pub use effects::obey;

@@ -1,32 +1,11 @@
 // The parameter lists of the Out pages: their fields, and what is wrong with one. Every field is read by `field` or `copy`.
+use super::reader::field;
 ghost use mathlib.Core.Path.{_≡_};
-ghost use Prim.Native.Nat.{_+_, _-_, _≤_, _<_};
+ghost use Prim.Native.Nat.{_+_, _-_, _≤_};
 ghost use lib.ListN.{length};
-ghost use Rattle.wire.specs.Bytes.{part, number};
+ghost use Rattle.wire.specs.Bytes.{part};
 ghost use Rattle.model.specs.Totals.{totalOf};
 ghost use Rattle.pages.specs.Out.{wrongAttributes, wrongKey, wrongExchange, wrongFields, wrongList};
-
-// The big-endian number in the n bytes of the list from at on.
-fn number_at(list: &[u8], at: usize, n: usize) -> u32
-    requires { ⌜ (at < 512) × (n ≤ 4) ⌝ }
-    ensures { λ r. ⌜ r ≡ number n at (now (list .entry)) ⌝ }
-{
-    let mut x: u32 = 0;
-    let mut i = 0;
-    while i < n {
-        x = x * 256 + wire::at(list, at + i) as u32;
-        i += 1;
-    }
-    x
-}
-
-// A field of the list: the n bytes from at on, as a number.
-pub fn field(list: &[u8], at: usize, n: usize) -> u32
-    requires { ⌜ (at < 512) × (n ≤ 4) ⌝ }
-    ensures { λ r. ⌜ r ≡ number n at (now (list .entry)) ⌝ }
-{
-    number_at(list, at, n)
-}
 
 // Fills d with the bytes of the list from at on.
 pub fn copy(d: &mut [u8], list: &[u8], at: usize)

@@ -5,8 +5,8 @@ use native.Mathlib.Omega.{arith}
 use Rattle.wire.specs.Bytes.{number}
 use Rattle.pages.specs.OutLaws.{number-empty, number-more, below-more, below-four}
 use borrow.Author.Needs.{needs}
-use Rattle.pages.proofs.lists.number_at.Statement.{statement}
-use Rattle.pages.proofs.lists.number_at.Tie as tie
+use Rattle.pages.proofs.reader.number_at.Statement.{statement}
+use Rattle.pages.proofs.reader.number_at.Tie as tie
 
 abbrev Inv-loop : tie.InvT-loop
 Inv-loop list at n x₀ i₀ x i = (i ≤ n) × (x < 256 ^ i) × (x ≡ number i at list)
