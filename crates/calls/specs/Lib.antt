@@ -16,5 +16,6 @@ pub mod WholeLaws
 pub mod WholeCases
 pub mod Run
 pub mod StepLaws
+pub mod Sequence
 pub mod BuildLaws
 pub mod SlotsLaws

@@ -108,11 +108,13 @@ module _ (units : List ℕ) (k : Asked) (d : List ℕ) (clock : ℕ) where
     pub obeyed-here : (o : Obeys) → unitAt (k .unit) (obeyed units (k .unit) (k .command) d) ≡ newRecord (pageOf (k .command)) d (unitAt (k .unit) units)
     obeyed-here o = let h = o .small in record-here units (k .unit) _ (new-full o) (omega arith)
 
-    -- its own unit, where it was sound and used, is again
-    pub whole-used : unitState units (k .unit) ≡ Used → unitState (whole units k d clock .units) (k .unit) ≡ Used
+    obeyed-used : Obeys → unitState (obeyed units (k .unit) (k .command) d) (k .unit) ≡ Used
     unfolding unitState
-    whole-used s =
-        whole-cases (λ (w : Whole). unitStateOf (k .unit) (unitAt (k .unit) (w .units)) ≡ Used) (λ n. s)
-        (λ z t. let o = obeys z t in
-        ap (unitStateOf (k .unit)) (obeyed-here o) ∙ new-used (pageOf (k .command)) d (unitAt (k .unit) units) (o .right) (rec-full (o .small)) (k .unit) s)
-        (λ z f r. s) (λ z f r. s)
+    obeyed-used o =
+        ap (unitStateOf (k .unit)) (obeyed-here o) ∙ new-used (pageOf (k .command)) d (unitAt (k .unit) units) (o .right) (rec-full (o .small)) (k .unit) (o .used)
+
+    -- its own unit is used or unused, sound or unsound, as it was
+    pub whole-state : unitState (whole units k d clock .units) (k .unit) ≡ unitState units (k .unit)
+    whole-state =
+        whole-cases (λ (w : Whole). unitState (w .units) (k .unit) ≡ unitState units (k .unit)) (λ n. refl)
+        (λ z t. let o = obeys z t in obeyed-used o ∙ sym (o .used)) (λ z f r. refl) (λ z f r. refl)

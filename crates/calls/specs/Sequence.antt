@@ -1,0 +1,135 @@
+-- Demand 3, the sequence: from sound records and slots that only these calls change, every sequence of opens, closes, aborts and resets gives
+-- each command the final answer, and leaves the records, of whole commands run singly, each at the step that answered it and with that
+-- step's clock.
+use mathlib.Core.Path.{_≡_, refl, sym, ap, ap₂, _∙_, subst}
+use mathlib.Core.Bool.{Bool, true, false}
+use mathlib.Core.Option.{Option, none, some}
+use mathlib.Core.List.{List, [], _∷_, _++_}
+use Prim.Native.Nat.{ℕ, _+_, _<_}
+use native.Mathlib.Omega.{arith}
+use lib.Dec.{eqb}
+use lib.ListN.{length, length-append}
+use borrow.Author.Tests.{eqb-true, eqb-false}
+use Rattle.units.specs.declared.UnitState.{UnitState}
+use Rattle.units.specs.declared.UnitState.the-variants.{Used}
+use Rattle.units.specs.Unit.{unitAt, unitState, unitStateOf}
+use Rattle.slots.specs.Slot.{slotAt}
+use Rattle.judge.specs.Judgement.{isUnsound}
+use Rattle.calls.specs.Whole.{Asked, Whole, whole}
+use Rattle.calls.specs.WholeCases.{whole-cases, whole-length, whole-others, whole-state}
+use Rattle.calls.specs.Run.{Tables, Call, opens, closes, aborts, resets, Event, event, Meets, Ran, Ledger, after, ledgerOf, View, vacant, held, damaged, view, toView, ofView, starts, Agrees, Done, doneIn, dones, Singly, finalIn, finals, KeepsReply}
+use Rattle.calls.specs.StepLaws.{Fits, Stepped, step}
+
+-- ---- the premise: tables of their sizes, every unit record sound (used or unused), every slot sound (open or free)
+
+abbrev pub isDamaged : View → Bool
+isDamaged vacant = false
+isDamaged (held k) = false
+isDamaged damaged = true
+
+abbrev pub SoundUnits : List ℕ → Type 0
+SoundUnits units = (u : ℕ) → u < 8 → isUnsound (unitState units u) ≡ false
+
+pub record SoundTables (t : Tables) : Type 0 where
+  pub units-length : length (t .units) ≡ 4096
+  pub slots-length : length (t .slots) ≡ 8192
+  pub units-sound : SoundUnits (t .units)
+  pub slots-sound : (i : ℕ) → i < 16 → isDamaged (view (slotAt i (t .slots))) ≡ false
+
+-- ---- what a run shows
+
+-- each open and close of a run writes no more of its reply than its count says
+abbrev pub AllKeep : List Event → Type 0
+AllKeep [] = Unit {0}
+AllKeep (e ∷ es) = KeepsReply (e .call) (e .answer) (e .reply) × AllKeep es
+
+pub record Sequence (t : Tables) (es : List Event) (n : Tables) : Type 0 where
+  -- the answers, the written reply bytes and the unit table are those of the whole commands run singly, in the order of the steps that
+  -- answered them, each with that step's clock, and the unit, command and token that the ledger has
+  pub singly : Singly (t .units) (dones (starts (t .slots)) es) (n .units)
+  -- each A0, A2 or A3 to an open or close is exactly one command, and none is dropped
+  pub none-dropped : length (dones (starts (t .slots)) es) ≡ finals es
+  -- the slots agree with the ledger that the history gives
+  pub agrees : Agrees (n .slots) (ledgerOf (starts (t .slots)) es)
+  -- records and slots stay sound
+  pub sound : SoundTables n
+  pub replies-kept : AllKeep es
+
+-- ---- laws
+
+sound-agrees : (v : View) → isDamaged v ≡ false → v ≡ toView (ofView v)
+sound-agrees vacant e = refl
+sound-agrees (held k) e = refl
+sound-agrees damaged e = let z : _≡_ {A = ℕ} 0 1 = cc in absurd (omega arith)
+
+start-fits : (t : Tables) → SoundTables t → Fits t (starts (t .slots))
+start-fits t s =
+    record { units-length = s .units-length; slots-length = s .slots-length; agrees = λ i h. sound-agrees (view (slotAt i (t .slots))) (s .slots-sound i h) }
+
+view-sound : (o : Option Asked) (v : View) → v ≡ toView o → isDamaged v ≡ false
+view-sound none v e = rw e
+view-sound (some k) v e = rw e
+
+singly-append : (us ms ns : List ℕ) (xs ys : List Done) → Singly us xs ms → Singly ms ys ns → Singly us (xs ++ ys) ns
+singly-append us ms ns [] ys p q = subst (λ (x : List ℕ). Singly x ys ns) (sym p) q
+singly-append us ms ns (x ∷ xs) ys p q =
+    (p .0, p .1, singly-append (whole us (x .what) (x .sent) (x .clock) .units) ms ns xs ys (p .2) q)
+
+-- a whole command leaves sound records
+whole-sound : (units : List ℕ) (k : Asked) (d : List ℕ) (clock : ℕ) → length units ≡ 4096 → SoundUnits units → SoundUnits (whole units k d clock .units)
+unfolding unitState
+whole-sound units k d clock full sound u h = by-cases (eqb (k .unit) u) refl
+  where
+    by-cases : (b : Bool) → eqb (k .unit) u ≡ b → isUnsound (unitStateOf u (unitAt u (whole units k d clock .units))) ≡ false
+    by-cases true e =
+        let q = eqb-true (k .unit) u e in
+        ap isUnsound (subst (λ (v : ℕ). unitStateOf v (unitAt v (whole units k d clock .units)) ≡ unitStateOf v (unitAt v units)) q (whole-state units k d clock full)) ∙ sound u h
+    by-cases false e = ap (λ (r : List ℕ). isUnsound (unitStateOf u r)) (whole-others units k d clock full u (eqb-false (k .unit) u e)) ∙ sound u h
+
+singly-sound : (xs : List Done) (us ns : List ℕ) → length us ≡ 4096 → SoundUnits us → Singly us xs ns → SoundUnits ns
+singly-sound [] us ns full sound p = subst SoundUnits p sound
+singly-sound (x ∷ xs) us ns full sound p =
+    singly-sound xs (whole us (x .what) (x .sent) (x .clock) .units) ns (whole-length us (x .what) (x .sent) (x .clock) full)
+    (whole-sound us (x .what) (x .sent) (x .clock) full sound) (p .2)
+
+-- ---- a run, from any tables that fit a ledger
+
+pub record Runs (t : Tables) (ledger : Ledger) (es : List Event) (n : Tables) : Type 0 where
+  pub fits : Fits n (ledgerOf ledger es)
+  pub singly : Singly (t .units) (dones ledger es) (n .units)
+  pub counted : length (dones ledger es) ≡ finals es
+  pub keeps : AllKeep es
+
+pub runs : (es : List Event) (t : Tables) (ledger : Ledger) (n : Tables) → Fits t ledger → Ran t es n → Runs t ledger es n
+runs [] t ledger n fit ran = record { fits = subst (λ (x : Tables). Fits x ledger) ran fit; singly = ap (λ (x : Tables). x .units) ran; counted = refl; keeps = tt }
+runs (e ∷ es) t ledger n fit (m, meets, ran) =
+    let s = step t ledger fit (e .call) (e .answer) (e .reply) m meets in
+    let r = runs es m (after ledger (e .call) (e .answer)) n (s .fits) ran in
+    let here = doneIn ledger (e .call) (e .answer) (e .reply) in
+    let rest = dones (after ledger (e .call) (e .answer)) es in
+    record {
+      fits = r .fits;
+      singly = singly-append (t .units) (m .units) (n .units) here rest (s .singly) (r .singly);
+      counted = length-append here rest ∙ ap₂ (λ (x y : ℕ). x + y) (s .counted) (r .counted);
+      keeps = (s .reply-kept, r .keeps);
+    }
+
+-- ---- demand 3: every run from sound tables
+
+pub sequence : (t : Tables) (es : List Event) (n : Tables) → SoundTables t → Ran t es n → Sequence t es n
+sequence t es n sound ran =
+    let r = runs es t (starts (t .slots)) n (start-fits t sound) ran in
+    let f = r .fits in
+    record {
+      singly = r .singly;
+      none-dropped = r .counted;
+      agrees = f .agrees;
+      sound =
+          record {
+            units-length = f .units-length;
+            slots-length = f .slots-length;
+            units-sound = singly-sound (dones (starts (t .slots)) es) (t .units) (n .units) (sound .units-length) (sound .units-sound) (r .singly);
+            slots-sound = λ i h. view-sound (ledgerOf (starts (t .slots)) es i) (view (slotAt i (n .slots))) (f .agrees i h);
+          };
+      replies-kept = r .keeps;
+    }
