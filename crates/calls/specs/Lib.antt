@@ -17,5 +17,6 @@ pub mod WholeCases
 pub mod Run
 pub mod StepLaws
 pub mod Sequence
+pub mod WholeCalls
 pub mod BuildLaws
 pub mod SlotsLaws

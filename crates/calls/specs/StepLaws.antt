@@ -47,12 +47,13 @@ use Rattle.calls.specs.Run.{Tables, tables, Call, opens, closes, aborts,
 
 -- ---- an open goes one of five ways, and a close one of three
 
-module _ (l : Lent) (k : Asked) (clock : ℕ) (Q : Outcome → Type 0) where
-  parked-out : Opens l (k .unit) (k .command) (k .token) clock → dataOut (codeOf (k .command)) ≡ true
+module _ (l : Lent) (k : Asked) (clock : ℕ) where
+  pub parked-out : Opens l (k .unit) (k .command) (k .token) clock → dataOut (codeOf (k .command)) ≡ true
       → applyOpen l (k .unit) (k .command) (k .token) (slotPlan (lowestFree (l .slots))) ≡ openOut l (k .unit) (k .command) (k .token) clock
   unfolding openOut openPlan judgedPlan passedPlan
   parked-out o d = rw (o .lengths, o .token-length, o .none, d)
 
+module _ (l : Lent) (k : Asked) (clock : ℕ) (Q : Outcome → Type 0) where
   pub open-by :
       (rightlyLent l ≡ false → Q (gives H1 l))
       → (rightToken (length (k .token)) ≡ false → Q (gives H2 l))
@@ -78,7 +79,7 @@ module _ (l : Lent) (k : Asked) (clock : ℕ) (Q : Outcome → Type 0) where
       by-cases true true true ea eb ep =
           let q = both-true (eqb (openReason (l .units) (k .unit) (k .command) (k .token) clock) 0) (dataOut (codeOf (k .command))) ep in
           let o : Opens l (k .unit) (k .command) (k .token) clock = record { lengths = ea; token-length = eb; none = eqb-true _ 0 (q .0) } in
-          subst Q (parked-out o (q .1)) (by-slot o (q .1) (lowestFree (l .slots)) refl)
+          subst Q (parked-out l k clock o (q .1)) (by-slot o (q .1) (lowestFree (l .slots)) refl)
 
 module _ (l : Lent) (s : ℕ) (d : List ℕ) (clock : ℕ) (Q : Outcome → Type 0) where
   h3-out : rightlyLent l ≡ true → both (leb s 15) (isOpen (slotStateOf (slotAt s (l .slots)))) ≡ false → gives H3 l ≡ closeOut l s d clock
@@ -99,22 +100,25 @@ module _ (l : Lent) (s : ℕ) (d : List ℕ) (clock : ℕ) (Q : Outcome → Type
 
 -- ---- what slots hold
 
-view-blank : view blankRecord ≡ vacant
+pub view-blank : view blankRecord ≡ vacant
 unfolding view
 view-blank = rw record-free
 
-view-open : (rec : List ℕ) → slotStateOf rec ≡ Open → view rec ≡ held (heldBy rec)
+pub view-open : (rec : List ℕ) → slotStateOf rec ≡ Open → view rec ≡ held (heldBy rec)
 unfolding view
 view-open rec e = rw e
 
+-- a parked record gives back what was put in
+pub held-parked : (u : ℕ) (c token : List ℕ) → u ≤ 7 → length token ≤ 64 → legalLen (codeOf c) (length c) ≡ true
+    → heldBy (openRecord u c token) ≡ asked u c token
+held-parked u c token hu h64 hl =
+    let n = legal-small (codeOf c) (length c) hl in
+    ap₂ (λ (v : ℕ) (x : List ℕ). asked v x (slotToken (openRecord u c token))) (open-unit u c token (omega arith) h64 (omega arith)) (open-command u c token (omega arith) h64)
+    ∙ ap (λ (x : List ℕ). asked u c x) (open-token u c token (omega arith) h64)
+
 view-parked : (u : ℕ) (c token : List ℕ) → u ≤ 7 → 16 ≤ length token → length token ≤ 64 → dataOut (codeOf c) ≡ true
     → legalLen (codeOf c) (length c) ≡ true → view (openRecord u c token) ≡ held (asked u c token)
-view-parked u c token hu h16 h64 hd hl =
-    let n = legal-small (codeOf c) (length c) hl in
-    view-open (openRecord u c token) (parked-open u c token hu h16 h64 hd hl)
-    ∙ ap held
-    (ap₂ (λ (v : ℕ) (x : List ℕ). asked v x (slotToken (openRecord u c token))) (open-unit u c token (omega arith) h64 (omega arith)) (open-command u c token (omega arith) h64)
-    ∙ ap (λ (x : List ℕ). asked u c x) (open-token u c token (omega arith) h64))
+view-parked u c token hu h16 h64 hd hl = view-open (openRecord u c token) (parked-open u c token hu h16 h64 hd hl) ∙ ap held (held-parked u c token hu h64 hl)
 
 agrees-put : (slots new : List ℕ) (ledger : Ledger) (s : ℕ) (x : Option Asked) → view (slotAt s new) ≡ toView x
     → ((j : ℕ) → (s ≡ j → ⊥) → slotAt j new ≡ slotAt j slots) → Agrees slots ledger → Agrees new (put ledger s x)
@@ -125,7 +129,7 @@ agrees-put slots new ledger s x here other agrees i h = by-cases (eqb i s) refl
     by-cases false e = ap view (other i (λ q. eqb-false i s e (sym q))) ∙ agrees i h
 
 -- the ledger has what an open slot holds
-held-some : (o : Option Asked) (k : Asked) → held k ≡ toView o → o ≡ some k
+pub held-some : (o : Option Asked) (k : Asked) → held k ≡ toView o → o ≡ some k
 held-some none k e = let z : _≡_ {A = ℕ} 0 1 = cc in absurd (omega arith)
 held-some (some x) k e = cc
 
