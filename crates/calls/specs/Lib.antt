@@ -18,5 +18,7 @@ pub mod Run
 pub mod StepLaws
 pub mod Sequence
 pub mod WholeCalls
+pub mod Full
+pub mod OneRun
 pub mod BuildLaws
 pub mod SlotsLaws
