@@ -20,5 +20,7 @@ pub mod Sequence
 pub mod WholeCalls
 pub mod Full
 pub mod OneRun
+pub mod History
+pub mod HistoryLaws
 pub mod BuildLaws
 pub mod SlotsLaws

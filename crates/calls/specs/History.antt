@@ -1,0 +1,103 @@
+-- The key history of a key set: the keys that the starting keys and the GOOD key commands since say are valid, by version. It has no mask, no
+-- place and no byte of a later record. A unit's key set is its own today (`keySetOf`).
+use mathlib.Core.Bool.{Bool, true, false}
+use mathlib.Core.Option.{Option, none, some}
+use mathlib.Core.List.{List, [], _∷_, _++_}
+use Prim.Native.Nat.{ℕ}
+use lib.Dec.{eqb}
+use lib.ListN.{replicate}
+use Rattle.choice.specs.Choice.{both, pick}
+use Rattle.hmac.specs.Hmac.{hmac, bySha1}
+use Rattle.units.specs.Unit.{step, identifier, authKey, genKey, nextAuthKey, nextGenKey, isValid, workingKey}
+use Rattle.judge.specs.Command.{codeOf, pageOf}
+use Rattle.pages.specs.Out.{newVersion, seed, agreed}
+use Rattle.pages.specs.Effects.{lastFlipped}
+use Rattle.calls.specs.Answers.{isHandled}
+use Rattle.calls.specs.Run.{Done}
+
+pub record KeySet : Type 0 where
+  pub name : List ℕ
+  pub auth : List ℕ
+  pub generation : List ℕ
+  pub next-auth : List ℕ
+  pub next-generation : List ℕ
+  pub pending : Bool
+  -- the valid working key of a version
+  pub working : ℕ → Option (List ℕ)
+
+-- the keys of a starting record
+abbrev pub startKeys : List ℕ → KeySet
+startKeys rec =
+    record {
+      name = identifier rec;
+      auth = authKey rec;
+      generation = genKey rec;
+      next-auth = nextAuthKey rec;
+      next-generation = nextGenKey rec;
+      pending = eqb (step rec) 1;
+      working = λ v. pick (isValid v rec) (some (workingKey v rec)) none;
+    }
+
+-- Set Key: the version's key is HMAC under the generation master key over the seed
+abbrev pub keySet : ℕ → List ℕ → KeySet → KeySet
+keySet v s k =
+    record {
+      name = k .name;
+      auth = k .auth;
+      generation = k .generation;
+      next-auth = k .next-auth;
+      next-generation = k .next-generation;
+      pending = k .pending;
+      working = λ w. pick (eqb w v) (some (hmac bySha1 (k .generation) s)) (k .working w);
+    }
+
+-- Seed Exchange, with the agreed value: the next pair from S, and from S with the lowest bit of its last byte inverted
+abbrev pub seedExchanged : List ℕ → KeySet → KeySet
+seedExchanged value k =
+    record {
+      name = k .name;
+      auth = k .auth;
+      generation = k .generation;
+      next-auth = hmac bySha1 (k .generation) (lastFlipped (value ++ k .name));
+      next-generation = hmac bySha1 (k .generation) (value ++ k .name);
+      pending = true;
+      working = k .working;
+    }
+
+-- Change: the next pair is the pair, and no working key is valid
+abbrev pub masterChanged : KeySet → KeySet
+masterChanged k =
+    record {
+      name = k .name;
+      auth = k .next-auth;
+      generation = k .next-generation;
+      next-auth = replicate 20 0;
+      next-generation = replicate 20 0;
+      pending = false;
+      working = λ v. none;
+    }
+
+-- a GOOD key command with its parameter list; Set Attributes leaves the keys
+unfoldable pub keyCommand : ℕ → List ℕ → KeySet → KeySet
+keyCommand page d k =
+    pick (eqb page 0x0011) k
+    (pick (eqb page 0x0014) (keySet (newVersion d) (seed d) k)
+    (pick (eqb page 0x0012) (seedExchanged (agreed d) k)
+    (masterChanged k)))
+
+-- is it a GOOD SECURITY PROTOCOL OUT at that unit?
+abbrev pub isKeyCommand : ℕ → Done → Bool
+isKeyCommand u x = both (eqb (x .what .unit) u) (both (eqb (codeOf (x .what .command)) 0xB5) (isHandled (x .answer)))
+
+-- the keys after each whole command
+abbrev pub history : ℕ → KeySet → List Done → KeySet
+history u k [] = k
+history u k (x ∷ xs) = history u (pick (isKeyCommand u x) (keyCommand (pageOf (x .what .command)) (x .sent) k) k) xs
+
+-- the key that the history says is valid for a command: a working row takes the version's; a master row wants version 0 and the
+-- authentication master key; Change wants version 0, a pending exchange and the next authentication master key
+unfoldable pub keySaid : KeySet → Bool → Bool → ℕ → Option (List ℕ)
+keySaid k master change v =
+    pick master
+    (pick (both (eqb v 0) (pick change (k .pending) true)) (some (pick change (k .next-auth) (k .auth))) none)
+    (k .working v)

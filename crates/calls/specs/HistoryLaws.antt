@@ -1,0 +1,129 @@
+-- The records always say what the key history says.
+use mathlib.Core.Path.{_≡_, refl, sym, ap, ap₂, _∙_, subst}
+use mathlib.Core.Bool.{Bool, true, false}
+use mathlib.Core.Option.{Option, none, some}
+use mathlib.Core.List.{List, [], _∷_, _++_}
+use Prim.Native.Nat.{ℕ, _*_, _<_}
+use native.Mathlib.Omega.{arith}
+use lib.Dec.{eqb}
+use lib.ListN.{length, drop, length-drop}
+use lib.Seq.{length-take-le}
+use borrow.Author.Tests.{eqb-true, eqb-false, eq-eqb, ne-eqb}
+use Rattle.choice.specs.Choice.{both, pick}
+use Rattle.choice.specs.ChoiceLaws.{both-true}
+use Rattle.hmac.specs.Hmac.{hmac, bySha1}
+use Rattle.model.specs.declared.Answer.the-variants.{Good, Run}
+use Rattle.model.specs.Refusal.{refusal}
+use Rattle.units.specs.Unit.{unitAt, step, identifier, authKey, genKey, nextAuthKey, nextGenKey, isValid, workingKey}
+use Rattle.judge.specs.Command.{codeOf, pageOf}
+use Rattle.pages.specs.Out.{newMethod, newTag, newVersion, seed, agreed, wrongList}
+use Rattle.pages.specs.OutLaws.{right-version}
+use Rattle.pages.specs.Effects.{attributesSet, workingKeySet, lastFlipped, nextAuth, nextGen, exchanged, changed, newRecord}
+use Rattle.pages.specs.FieldLaws.{SameMaster, SameNext, SameWorking}
+use Rattle.pages.specs.EffectLaws.{attributes-master, attributes-next, attributes-working, key-master, key-next, key-valid, key-working, key-other-valid, key-other-working, exchanged-master, exchanged-working, exchanged-step, exchanged-next-auth, exchanged-next-generation, changed-identifier, changed-auth, changed-generation, changed-valid, changed-step, changed-next-auth, changed-next-generation}
+use Rattle.calls.specs.Answers.{isHandled}
+use Rattle.calls.specs.Whole.{Asked, Whole, whole-of, obeyed, whole}
+use Rattle.calls.specs.WholeCases.{whole-cases, whole-length, whole-others, Obeys, obeys, obeyed-here}
+use Rattle.calls.specs.Run.{Done, Singly}
+use Rattle.calls.specs.History.{KeySet, startKeys, keySet, seedExchanged, masterChanged, keyCommand, isKeyCommand, history, keySaid}
+
+-- a record says what a key set says
+pub record Says (k : KeySet) (rec : List ℕ) : Type 0 where
+  pub name : k .name ≡ identifier rec
+  pub auth : k .auth ≡ authKey rec
+  pub generation : k .generation ≡ genKey rec
+  pub next-auth : k .next-auth ≡ nextAuthKey rec
+  pub next-generation : k .next-generation ≡ nextGenKey rec
+  pub pending : k .pending ≡ eqb (step rec) 1
+  pub working : (v : ℕ) → v < 16 → k .working v ≡ pick (isValid v rec) (some (workingKey v rec)) none
+
+pub says-start : (rec : List ℕ) → Says (startKeys rec) rec
+says-start rec = record { name = refl; auth = refl; generation = refl; next-auth = refl; next-generation = refl; pending = refl; working = λ v h. refl }
+
+-- the working keys, where they are as they were
+same-working : (k : KeySet) (old new : List ℕ) → SameWorking old new → Says k old → (v : ℕ) → v < 16
+    → k .working v ≡ pick (isValid v new) (some (workingKey v new)) none
+same-working k old new w s v h = s .working v h ∙ ap₂ (λ (b : Bool) (x : List ℕ). pick b (some x) none) (sym (w .same-valid v)) (sym (w .same-key v h))
+
+-- ---- each effect
+
+module _ (k : KeySet) (rec : List ℕ) (says : Says k rec) (full : length rec ≡ 512) where
+  says-attributes : (m t : ℕ) → Says k (attributesSet m t rec)
+  says-attributes m t =
+      let a = attributes-master m t rec full in
+      let n = attributes-next m t rec full in
+      record {
+        name = says .name ∙ sym (a .same-identifier);
+        auth = says .auth ∙ sym (a .same-auth);
+        generation = says .generation ∙ sym (a .same-generation);
+        next-auth = says .next-auth ∙ sym (n .same-next-auth);
+        next-generation = says .next-generation ∙ sym (n .same-next-generation);
+        pending = says .pending ∙ ap (λ (x : ℕ). eqb x 1) (sym (n .same-step));
+        working = same-working k rec (attributesSet m t rec) (attributes-working m t rec full) says;
+      }
+
+  says-key : (v : ℕ) (s : List ℕ) → v < 16 → Says (keySet v s k) (workingKeySet v s rec)
+  says-key v s hv =
+      let a = key-master v s rec hv full in
+      let n = key-next v s rec hv full in
+      record {
+        name = says .name ∙ sym (a .same-identifier);
+        auth = says .auth ∙ sym (a .same-auth);
+        generation = says .generation ∙ sym (a .same-generation);
+        next-auth = says .next-auth ∙ sym (n .same-next-auth);
+        next-generation = says .next-generation ∙ sym (n .same-next-generation);
+        pending = says .pending ∙ ap (λ (x : ℕ). eqb x 1) (sym (n .same-step));
+        working = λ w h. by-version w h (eqb w v) refl;
+      }
+    where
+      new : List ℕ
+      new = workingKeySet v s rec
+
+      by-version : (w : ℕ) → w < 16 → (b : Bool) → eqb w v ≡ b
+          → pick b (some (hmac bySha1 (k .generation) s)) (k .working w) ≡ pick (isValid w new) (some (workingKey w new)) none
+      by-version w h true e =
+          let q = eqb-true w v e in
+          rw (q, key-valid v s rec hv full, key-working v s rec hv full, says .generation)
+      by-version w h false e =
+          let other = eqb-false w v e in
+          rw (key-other-valid v s rec hv full w h other, key-other-working v s rec hv full w h other) (says .working w h)
+
+  says-exchanged : (value : List ℕ) → Says (seedExchanged value k) (exchanged value rec)
+  unfolding nextAuth nextGen
+  says-exchanged value =
+      let a = exchanged-master value rec full in
+      record {
+        name = says .name ∙ sym (a .same-identifier);
+        auth = says .auth ∙ sym (a .same-auth);
+        generation = says .generation ∙ sym (a .same-generation);
+        next-auth =
+            ap₂ (λ (g n : List ℕ). hmac bySha1 g (lastFlipped (value ++ n))) (says .generation) (says .name) ∙ sym (exchanged-next-auth value rec full);
+        next-generation =
+            ap₂ (λ (g n : List ℕ). hmac bySha1 g (value ++ n)) (says .generation) (says .name) ∙ sym (exchanged-next-generation value rec full);
+        pending = sym (eq-eqb (step (exchanged value rec)) 1 (exchanged-step value rec full));
+        working = same-working k rec (exchanged value rec) (exchanged-working value rec full) says;
+      }
+
+  says-changed : Says (masterChanged k) (changed rec)
+  says-changed =
+      record {
+        name = says .name ∙ sym (changed-identifier rec full);
+        auth = says .next-auth ∙ sym (changed-auth rec full);
+        generation = says .next-generation ∙ sym (changed-generation rec full);
+        next-auth = sym (changed-next-auth rec full);
+        next-generation = sym (changed-next-generation rec full);
+        pending = sym (ap (λ (x : ℕ). eqb x 1) (changed-step rec full));
+        working = λ v h. rw (changed-valid rec full v);
+      }
+
+  pub says-command : (page : ℕ) (d : List ℕ) → wrongList page d ≡ false → Says (keyCommand page d k) (newRecord page d rec)
+  unfolding keyCommand newRecord
+  says-command page d right = by-page (eqb page 0x0011) (eqb page 0x0014) (eqb page 0x0012) refl
+    where
+      by-page : (a b c : Bool) → eqb page 0x0014 ≡ b
+          → Says (pick a k (pick b (keySet (newVersion d) (seed d) k) (pick c (seedExchanged (agreed d) k) (masterChanged k))))
+          (pick a (attributesSet (newMethod d) (newTag d) rec) (pick b (workingKeySet (newVersion d) (seed d) rec) (pick c (exchanged (agreed d) rec) (changed rec))))
+      by-page true b c e = says-attributes (newMethod d) (newTag d)
+      by-page false true c e = says-key (newVersion d) (seed d) (right-version page d (eqb-true page 0x0014 e) right)
+      by-page false false true e = says-exchanged (agreed d)
+      by-page false false false e = says-changed
