@@ -23,7 +23,7 @@ use Rattle.pages.specs.FieldLaws.{SameMaster, SameNext, SameWorking}
 use Rattle.pages.specs.EffectLaws.{attributes-master, attributes-next, attributes-working, key-master, key-next, key-valid, key-working, key-other-valid, key-other-working, exchanged-master, exchanged-working, exchanged-step, exchanged-next-auth, exchanged-next-generation, changed-identifier, changed-auth, changed-generation, changed-valid, changed-step, changed-next-auth, changed-next-generation}
 use Rattle.calls.specs.Answers.{isHandled}
 use Rattle.calls.specs.Whole.{Asked, Whole, whole-of, obeyed, whole}
-use Rattle.calls.specs.WholeCases.{whole-cases, whole-length, whole-others, Obeys, obeys, obeyed-here}
+use Rattle.calls.specs.WholeCases.{whole-cases, whole-length, whole-others, Obeys, obeys, obeyed-here, obeyed-others}
 use Rattle.calls.specs.Run.{Done, Singly}
 use Rattle.calls.specs.History.{KeySet, startKeys, keySet, seedExchanged, masterChanged, keyCommand, isKeyCommand, history, keySaid}
 
@@ -127,3 +127,61 @@ module _ (k : KeySet) (rec : List ℕ) (says : Says k rec) (full : length rec �
       by-page false true c e = says-key (newVersion d) (seed d) (right-version page d (eqb-true page 0x0014 e) right)
       by-page false false true e = says-exchanged (agreed d)
       by-page false false false e = says-changed
+
+-- ---- a whole command, at any unit
+
+never : (a b : Bool) → both a (both b false) ≡ false
+never true true = refl
+never true false = refl
+never false b = refl
+
+module _ (us : List ℕ) (full : length us ≡ 4096) (u : ℕ) (h : u < 8) (k : KeySet) (says : Says k (unitAt u us)) (x : Done) where
+  Told : Whole → Type 0
+  Told w = w .answer ≡ x .answer → Says (pick (isKeyCommand u x) (keyCommand (pageOf (x .what .command)) (x .sent) k) k) (unitAt u (w .units))
+
+  -- the record of this unit is as it was, and the command is no key command here
+  stays : (us′ : List ℕ) → unitAt u us′ ≡ unitAt u us → isKeyCommand u x ≡ false
+      → Says (pick (isKeyCommand u x) (keyCommand (pageOf (x .what .command)) (x .sent) k) k) (unitAt u us′)
+  stays us′ e n = rw (n, e) says
+
+  rec-full : length (unitAt u us) ≡ 512
+  rec-full = length-take-le 512 (drop (u * 512) us) (rw length-drop (omega arith))
+
+  obeyed-says : Obeys us (x .what) (x .sent) (x .clock) full → eqb (codeOf (x .what .command)) 0xB5 ≡ true → Good 0 ≡ x .answer
+      → Says (pick (isKeyCommand u x) (keyCommand (pageOf (x .what .command)) (x .sent) k) k) (unitAt u (obeyed us (x .what .unit) (x .what .command) (x .sent)))
+  obeyed-says o t e = by-unit (eqb (x .what .unit) u) refl
+    where
+      by-unit : (b : Bool) → eqb (x .what .unit) u ≡ b
+          → Says (pick (isKeyCommand u x) (keyCommand (pageOf (x .what .command)) (x .sent) k) k) (unitAt u (obeyed us (x .what .unit) (x .what .command) (x .sent)))
+      by-unit true p =
+          let same = eqb-true (x .what .unit) u p in
+          let here : unitAt u (obeyed us (x .what .unit) (x .what .command) (x .sent)) ≡ newRecord (pageOf (x .what .command)) (x .sent) (unitAt u us) =
+          subst (λ (v : ℕ). unitAt v (obeyed us (x .what .unit) (x .what .command) (x .sent)) ≡ newRecord (pageOf (x .what .command)) (x .sent) (unitAt v us)) same
+          (obeyed-here us (x .what) (x .sent) (x .clock) full o) in
+          rw (p, t, ← e, here) (says-command k (unitAt u us) says rec-full (pageOf (x .what .command)) (x .sent) (o .right))
+      by-unit false p =
+          let ne = eqb-false (x .what .unit) u p in
+          stays (obeyed us (x .what .unit) (x .what .command) (x .sent)) (obeyed-others us (x .what) (x .sent) (x .clock) full o u ne) (rw p)
+
+  pub says-whole : whole us (x .what) (x .sent) (x .clock) .answer ≡ x .answer
+      → Says (pick (isKeyCommand u x) (keyCommand (pageOf (x .what .command)) (x .sent) k) k) (unitAt u (whole us (x .what) (x .sent) (x .clock) .units))
+  unfolding Told refusal
+  says-whole =
+      whole-cases us (x .what) (x .sent) (x .clock) Told
+      (λ n e. stays us refl (ap (λ b. both (eqb (x .what .unit) u) (both (eqb (codeOf (x .what .command)) 0xB5) b)) (sym (ap isHandled e)) ∙ never (eqb (x .what .unit) u) (eqb (codeOf (x .what .command)) 0xB5)))
+      (λ z t e. obeyed-says (obeys us (x .what) (x .sent) (x .clock) full z t) t e)
+      (λ z f r e. stays us refl (rw f (off (eqb (x .what .unit) u))))
+      (λ z f r e. stays us refl (rw f (off (eqb (x .what .unit) u))))
+    where
+      off : (b : Bool) → both b false ≡ false
+      off true = refl
+      off false = refl
+
+-- ---- any run of whole commands: the records say what the starting keys and the GOOD key commands since say
+
+pub says-run : (xs : List Done) (us ns : List ℕ) → length us ≡ 4096 → (u : ℕ) → u < 8 → (k : KeySet) → Says k (unitAt u us) → Singly us xs ns
+    → Says (history u k xs) (unitAt u ns)
+says-run [] us ns full u h k says p = subst (λ (z : List ℕ). Says k (unitAt u z)) p says
+says-run (x ∷ xs) us ns full u h k says p =
+    says-run xs (whole us (x .what) (x .sent) (x .clock) .units) ns (whole-length us (x .what) (x .sent) (x .clock) full) u h
+    (pick (isKeyCommand u x) (keyCommand (pageOf (x .what .command)) (x .sent) k) k) (says-whole us full u h k says x (p .0)) (p .2)

@@ -22,5 +22,6 @@ pub mod Full
 pub mod OneRun
 pub mod History
 pub mod HistoryLaws
+pub mod GoodChecked
 pub mod BuildLaws
 pub mod SlotsLaws

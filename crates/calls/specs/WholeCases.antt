@@ -97,11 +97,14 @@ module _ (units : List ℕ) (k : Asked) (d : List ℕ) (clock : ℕ) where
         (λ z t. let o = obeys z t in let h = o .small in record-length units (k .unit) _ (new-full o) (omega arith) ∙ full)
         (λ z f r. full) (λ z f r. full)
 
+    pub obeyed-others : (o : Obeys) (v : ℕ) → (k .unit ≡ v → ⊥) → unitAt v (obeyed units (k .unit) (k .command) d) ≡ unitAt v units
+    obeyed-others o v ne = let h = o .small in record-other units (k .unit) _ (new-full o) (omega arith) v ne
+
     -- no byte of another unit's record
     pub whole-others : (v : ℕ) → (k .unit ≡ v → ⊥) → unitAt v (whole units k d clock .units) ≡ unitAt v units
     whole-others v ne =
         whole-cases (λ (w : Whole). unitAt v (w .units) ≡ unitAt v units) (λ n. refl)
-        (λ z t. let o = obeys z t in let h = o .small in record-other units (k .unit) _ (new-full o) (omega arith) v ne)
+        (λ z t. obeyed-others (obeys z t) v ne)
         (λ z f r. refl) (λ z f r. refl)
 
     -- an Out page that is obeyed makes the unit's record anew
