@@ -4,6 +4,7 @@ use mathlib.Core.Bool.{Bool, true, false}
 use mathlib.Core.List.{List}
 use Prim.Native.Nat.{ℕ, _≤_, _<_}
 use native.Mathlib.Omega.{arith}
+use lib.Dec.{eqb}
 use lib.ListN.{length, take, drop}
 use lib.Seq.{drop-at, length-take-le}
 use Rattle.wire.specs.Bytes.{number, patch}
@@ -14,7 +15,7 @@ use Rattle.model.specs.declared.SlotNo.{SlotNo}
 use Rattle.model.specs.declared.Answer.{Answer}
 use Rattle.model.specs.declared.Answer.the-variants.{Good, Parked, Run, Check, Full, H1, H2, H3, H4, H5}
 use Rattle.units.specs.Unit.{unitAt, keySetOf}
-use Rattle.slots.specs.Slot.{slotAt, lowestFree, parked, freed}
+use Rattle.slots.specs.Slot.{slotAt, slotUnit, slotCommand, lowestFree, parked, freed}
 use Rattle.slots.specs.SearchLaws.{lowest}
 use Rattle.slots.specs.RoundLaws.{parked-other}
 use Rattle.slots.specs.declared.Found.the-variants.{At}
@@ -28,6 +29,9 @@ use Rattle.calls.specs.Open.{applyOpen, openOut}
 use Rattle.calls.specs.OpenLaws.{lengths-are, token-is, count-least}
 use Rattle.calls.specs.Close.{applyClose, closeOut}
 use Rattle.calls.specs.Cases.{Opens, open-cases, Closes, close-cases, slotReason}
+use Rattle.calls.specs.Whole.{Asked, obeyed}
+use Rattle.calls.specs.WholeLaws.{heldBy}
+use Rattle.calls.specs.WholeCases.{obeys, obeyed-others}
 use Rattle.calls.specs.declared.opening.Opening.{Opening}
 use Rattle.calls.specs.declared.closing.Closing.{Closing}
 
@@ -46,7 +50,9 @@ LeftByOpen l m H5 = m ≡ l
 
 -- a close: A0, A2 and A3 free the slot, and A0 alone may make one unit's record anew; every other answer leaves all
 abbrev pub LeftByClose : Lent → Lent → ℕ → Answer → Type 0
-LeftByClose l m s (Good n) = (m .slots ≡ freed s (l .slots)) × (m .reply ≡ l .reply) × (n ≡ 0)
+LeftByClose l m s (Good n) =
+    (m .slots ≡ freed s (l .slots)) × (m .reply ≡ l .reply) × (n ≡ 0)
+    × ((v : ℕ) → (slotUnit (slotAt s (l .slots)) ≡ v → ⊥) → unitAt v (m .units) ≡ unitAt v (l .units))
 LeftByClose l m s (Parked i) = m ≡ l
 LeftByClose l m s Run = m ≡ lent (l .units) (freed s (l .slots)) (l .reply)
 LeftByClose l m s (Check x) = m ≡ lent (l .units) (freed s (l .slots)) (l .reply)
@@ -110,5 +116,14 @@ close-leaves l s d clock a m e =
     (λ h k. told-close l m l s a H1 k refl)
     (λ h n k. told-close l m l s a H3 k refl)
     (λ o n k. told-close l m _ s a (refusal (slotReason l s d clock)) k refl)
-    (λ o z t k. told-close l m _ s a (Good 0) k (refl, refl, refl))
+    (λ o z t k. told-close l m _ s a (Good 0) k (refl, refl, refl, λ v ne. others o z t v ne))
     (λ o z t k. told-close l m _ s a Run k refl) e
+  where
+    q : Asked
+    q = heldBy (slotAt s (l .slots))
+
+    others : Closes l s → slotReason l s d clock ≡ 0 → eqb (codeOf (slotCommand (slotAt s (l .slots)))) 0xB5 ≡ true → (v : ℕ)
+        → (slotUnit (slotAt s (l .slots)) ≡ v → ⊥) → unitAt v (obeyed (l .units) (q .unit) (q .command) d) ≡ unitAt v (l .units)
+    others o z t v ne =
+        let full = lengths-are _ _ _ (o .lengths) .0 in
+        obeyed-others (l .units) q d clock full (obeys (l .units) q d clock full z t) v ne

@@ -1,6 +1,6 @@
 -- Facts by name about open and close, each of which shuts out a program that document 01 will not have ("What to prove, and programs
 -- that don't pass").
-use mathlib.Core.Path.{_≡_, refl, sym, ap, _∙_}
+use mathlib.Core.Path.{_≡_, refl, sym, ap, _∙_, subst}
 use mathlib.Core.Bool.{Bool, true, false, not}
 use mathlib.Core.List.{List, [], _∷_}
 use Prim.Native.Nat.{ℕ, _+_, _≤_, _<_, min}
@@ -34,7 +34,13 @@ use Rattle.pages.specs.In.{inPage, sizeOf, countOf}
 use Rattle.pages.specs.InLaws.{page-size}
 use Rattle.calls.specs.Lent.{Lent, lent, gives, rightlyLent, one-outcome}
 use Rattle.calls.specs.Open.{rightToken, isReplied, passedPlan, judgedPlan, openPlan, applyOpen, openOut}
-use Rattle.calls.specs.OpenLaws.{count-least}
+use Rattle.calls.specs.OpenLaws.{count-least, lengths-are}
+use Rattle.pages.specs.OutLaws.{right-version}
+use Rattle.pages.specs.Effects.{workingKeySet, newRecord}
+use Rattle.pages.specs.EffectLaws.{key-valid, key-working, key-differs}
+use Rattle.calls.specs.Whole.{Asked, obeyed}
+use Rattle.calls.specs.WholeLaws.{heldBy}
+use Rattle.calls.specs.WholeCases.{obeys, obeyed-here, used-length}
 use Rattle.calls.specs.Close.{closeReason, rejudgedPlan, heldPlan, closePlan, applyClose, closeOut}
 use Rattle.calls.specs.CloseLaws.{close-early, close-none}
 use Rattle.calls.specs.Answers.{isGood, isHandled, told-apart}
@@ -182,3 +188,41 @@ pub record KeyMade (before after : List ℕ) (d : List ℕ) : Type 0 where
   pub valid : isValid (newVersion d) after ≡ true
   pub key : workingKey (newVersion d) after ≡ hmac bySha1 (genKey before) (seed d)
   pub differs : isValid (newVersion d) before ≡ false → after ≡ before → ⊥
+
+key-page : (page : ℕ) (d rec : List ℕ) → page ≡ 0x0014 → newRecord page d rec ≡ workingKeySet (newVersion d) (seed d) rec
+unfolding newRecord
+key-page page d rec e = rw e
+
+pub set-key-made : (l : Lent) (s : ℕ) (d : List ℕ) (clock n : ℕ) (m : Lent) → gives (Good n) m ≡ closeOut l s d clock → pageOf (slotCommand (slotAt s (l .slots))) ≡ 0x0014
+    → KeyMade (unitAt (slotUnit (slotAt s (l .slots))) (l .units)) (unitAt (slotUnit (slotAt s (l .slots))) (m .units)) d
+unfolding closeOut refusal
+set-key-made l s d clock n m e page =
+    close-cases l s d clock (λ (p : Closing). gives (Good n) m ≡ applyClose l s d p → KeyMade (unitAt u (l .units)) (unitAt u (m .units)) d)
+    (λ h k. absurd (other H1 k refl)) (λ h f k. absurd (other H3 k refl)) (λ o f k. absurd (other (refusal (slotReason l s d clock)) k refl))
+    (λ o z t k. made o z t (ap (λ (x : Lent). x .units) (one-outcome (Good n) (Good 0) m _ _ k refl .1)))
+    (λ o z t k. absurd (other Run k refl)) e
+  where
+    u : ℕ
+    u = slotUnit (slotAt s (l .slots))
+
+    k : Asked
+    k = heldBy (slotAt s (l .slots))
+
+    other : {k : Lent} (b : Answer) → gives (Good n) m ≡ gives b k → isHandled b ≡ false → ⊥
+    other {k} b h f = told-apart isHandled (Good n) b (one-outcome (Good n) b m k (gives b k) h refl .0) refl f
+
+    made : Closes l s → slotReason l s d clock ≡ 0 → eqb (codeOf (slotCommand (slotAt s (l .slots)))) 0xB5 ≡ true → m .units ≡ obeyed (l .units) u (k .command) d
+        → KeyMade (unitAt u (l .units)) (unitAt u (m .units)) d
+    made o z t eu =
+        let full = lengths-are _ _ _ (o .lengths) .0 in
+        let w = obeys (l .units) k d clock full z t in
+        let hv = right-version (pageOf (k .command)) d page (w .right) in
+        let rec-full = used-length (l .units) k d clock full w in
+        let here : unitAt u (m .units) ≡ workingKeySet (newVersion d) (seed d) (unitAt u (l .units)) =
+        ap (unitAt u) eu ∙ obeyed-here (l .units) k d clock full w ∙ key-page (pageOf (k .command)) d (unitAt u (l .units)) page in
+        subst (λ (r : List ℕ). KeyMade (unitAt u (l .units)) r d) (sym here)
+        (record {
+          valid = key-valid (newVersion d) (seed d) (unitAt u (l .units)) hv rec-full;
+          key = key-working (newVersion d) (seed d) (unitAt u (l .units)) hv rec-full;
+          differs = key-differs (newVersion d) (seed d) (unitAt u (l .units)) hv rec-full;
+        })

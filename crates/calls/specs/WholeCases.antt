@@ -88,6 +88,9 @@ module _ (units : List ℕ) (k : Asked) (d : List ℕ) (clock : ℕ) where
     rec-full : k .unit < 8 → length (unitAt (k .unit) units) ≡ 512
     rec-full h = length-take-le 512 (drop (k .unit * 512) units) (rw length-drop (omega arith))
 
+    pub used-length : Obeys → length (unitAt (k .unit) units) ≡ 512
+    used-length o = rec-full (o .small)
+
     new-full : Obeys → length (newRecord (pageOf (k .command)) d (unitAt (k .unit) units)) ≡ 512
     new-full o = new-length (pageOf (k .command)) d (unitAt (k .unit) units) (o .right) (rec-full (o .small))
 
