@@ -59,7 +59,7 @@ key-said units u k says false change v h e = says .working v h ∙ found-some (i
 
 -- ---- a whole command that is GOOD was refused for nothing
 
-good-none : (units : List ℕ) (k : Asked) (d : List ℕ) (clock : ℕ) → isGood (whole units k d clock .answer) ≡ true → wholeReason units k d clock ≡ 0
+pub good-none : (units : List ℕ) (k : Asked) (d : List ℕ) (clock : ℕ) → isGood (whole units k d clock .answer) ≡ true → wholeReason units k d clock ≡ 0
 unfolding refusal
 good-none units k d clock =
     whole-cases units k d clock (λ (w : Whole). isGood (w .answer) ≡ true → wholeReason units k d clock ≡ 0)
@@ -107,7 +107,7 @@ module _ (t : Tables) (es : List Event) (m : Tables) (sound : SoundTables t) (ra
   fit = let s = sequence t es m sound ran in record { units-length = s .sound .units-length; slots-length = s .sound .slots-length; agrees = s .agrees }
 
   -- the step's answer is that of the whole command on the table just before it
-  answer-is : whole (m .units) (x .what) (x .sent) (x .clock) .answer ≡ x .answer
+  pub answer-is : whole (m .units) (x .what) (x .sent) (x .clock) .answer ≡ x .answer
   answer-is = (subst (λ (xs : List Done). Singly (m .units) xs (n .units)) answered (call-step m (ledgerOf (starts (t .slots)) es) fit k a r n meets .singly)) .0
 
   says-before : (u : ℕ) → u < 8 → Says (keysBefore u) (unitAt u (m .units))

@@ -23,5 +23,6 @@ pub mod OneRun
 pub mod History
 pub mod HistoryLaws
 pub mod GoodChecked
+pub mod Engineer
 pub mod BuildLaws
 pub mod SlotsLaws
