@@ -24,5 +24,7 @@ pub mod History
 pub mod HistoryLaws
 pub mod GoodChecked
 pub mod Engineer
+pub mod AfterChange
+pub mod Local
 pub mod BuildLaws
 pub mod SlotsLaws

@@ -91,7 +91,7 @@ module _ (units : List ℕ) (k : Asked) (d : List ℕ) (clock : ℕ) where
     pub used-length : Obeys → length (unitAt (k .unit) units) ≡ 512
     used-length o = rec-full (o .small)
 
-    new-full : Obeys → length (newRecord (pageOf (k .command)) d (unitAt (k .unit) units)) ≡ 512
+    pub new-full : Obeys → length (newRecord (pageOf (k .command)) d (unitAt (k .unit) units)) ≡ 512
     new-full o = new-length (pageOf (k .command)) d (unitAt (k .unit) units) (o .right) (rec-full (o .small))
 
     pub whole-length : length (whole units k d clock .units) ≡ 4096
