@@ -26,5 +26,6 @@ pub mod GoodChecked
 pub mod Engineer
 pub mod AfterChange
 pub mod Local
+pub mod Edges
 pub mod BuildLaws
 pub mod SlotsLaws
