@@ -1,4 +1,11 @@
-// The C face: functions that a program in C or Rust links. No logic stands here.
+// The C face: functions that a program in C or Rust links. No logic stands here. The five calls are in `face`.
+mod face;
+
+pub use face::nn_abort;
+pub use face::nn_build;
+pub use face::nn_close;
+pub use face::nn_open;
+pub use face::nn_reset;
 ghost use mathlib.Core.Path.{_≡_};
 ghost use Rattle.sha1.specs.Sha1.{sha1};
 ghost use Rattle.hmac.specs.Hmac.{hmac, bySha1};

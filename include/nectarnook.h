@@ -1,0 +1,219 @@
+/*
+ * nectarnook.h - capability-based command security for SCSI logical units
+ *
+ * The store keeps three buffers and lends them to each call; the library keeps nothing between calls, allocates nothing and calls
+ * nothing but memcpy and memset. Link with libnectarnook.a, which `rt staticlib nectarnook` writes to target/staticlib/.
+ *
+ *   units   4,096 bytes, the records of units 0 to 7
+ *   slots   8,192 bytes, the records of slots 0 to 15, in which commands wait for their data
+ *   reply     512 bytes, into which pages are replied
+ *
+ * None of the calls asks anything of the bytes that it is lent: every input has its answer, wrong lengths and damaged records too.
+ * What every call asks is what C can't say:
+ *
+ *   - a pointer is to as many readable bytes as the length after it says, or as the array that it is declared as; what is not
+ *     declared const is writable too. A pointer is never null, also where the length is 0;
+ *   - no buffer that a call may write overlaps any other buffer of the same call;
+ *   - until the call returns nothing else writes any of its buffers, or reads one that it may write.
+ *
+ * A fresh set of buffers:
+ *
+ *   static uint8_t units[NN_UNITS_LEN] = NN_FRESH_UNITS;
+ *   static uint8_t slots[NN_SLOTS_LEN] = NN_FRESH_SLOTS;
+ *   static uint8_t reply[NN_REPLY_LEN];
+ *
+ * Records keep their check with them, so units and slots may be saved and brought back as bytes.
+ */
+#ifndef NECTARNOOK_H
+#define NECTARNOOK_H
+
+#include <stddef.h>
+#include <stdint.h>
+
+#ifdef __cplusplus
+extern "C" {
+#endif
+
+/* ---- lengths, in bytes */
+
+#define NN_RECORD_LEN 512
+#define NN_UNITS_LEN 4096
+#define NN_SLOTS_LEN 8192
+#define NN_REPLY_LEN 512
+#define NN_IDENTIFIER_LEN 16
+#define NN_KEY_LEN 20
+#define NN_TOKEN_LEAST 16
+#define NN_TOKEN_MOST 64
+
+/* ---- fresh tables */
+
+#define NN_ZEROS_4 0, 0, 0, 0
+#define NN_ZEROS_12 NN_ZEROS_4, NN_ZEROS_4, NN_ZEROS_4
+#define NN_ZEROS_60 NN_ZEROS_12, NN_ZEROS_12, NN_ZEROS_12, NN_ZEROS_12, NN_ZEROS_12
+#define NN_ZEROS_240 NN_ZEROS_60, NN_ZEROS_60, NN_ZEROS_60, NN_ZEROS_60
+
+/* The 512 bytes of an unused unit, and of a free slot: 492 zeros and their SHA-1. */
+#define NN_BLANK_RECORD \
+    NN_ZEROS_240, NN_ZEROS_240, NN_ZEROS_12, \
+    0xaa, 0xc4, 0x93, 0xc3, 0xed, 0x21, 0x3d, 0x17, 0xb8, 0x3b, \
+    0x2e, 0x8a, 0x28, 0x3b, 0xa5, 0xf4, 0xdd, 0xf1, 0x62, 0xd4
+
+#define NN_BLANK_RECORDS_4 NN_BLANK_RECORD, NN_BLANK_RECORD, NN_BLANK_RECORD, NN_BLANK_RECORD
+
+/* Initializers: eight unused units, sixteen free slots. */
+#define NN_FRESH_UNITS { NN_BLANK_RECORDS_4, NN_BLANK_RECORDS_4 }
+#define NN_FRESH_SLOTS { NN_BLANK_RECORDS_4, NN_BLANK_RECORDS_4, NN_BLANK_RECORDS_4, NN_BLANK_RECORDS_4 }
+
+/* ---- results
+ *
+ * Each call returns its answer in 64 bits: from the lowest byte on the answer, status, sense key, additional code, qualifier and
+ * reason, then ten bits of count or slot. What an answer does not have is zero, and so are the bits above. No two answers of the
+ * calls have the same number. */
+
+#define NN_ANSWER(result) ((unsigned)((result) & 0xff))
+#define NN_STATUS(result) ((unsigned)((result) >> 8 & 0xff))
+#define NN_SENSE_KEY(result) ((unsigned)((result) >> 16 & 0xff))
+#define NN_CODE(result) ((unsigned)((result) >> 24 & 0xff))
+#define NN_QUALIFIER(result) ((unsigned)((result) >> 32 & 0xff))
+#define NN_REASON(result) ((unsigned)((result) >> 40 & 0xff))
+#define NN_COUNT(result) ((unsigned)((result) >> 48 & 0x3ff))
+#define NN_SLOT(result) NN_COUNT(result)
+
+/* What NN_ANSWER gives.
+ *
+ *   A0  GOOD, handled here. NN_STATUS is 00h, NN_COUNT how many bytes of the reply were written
+ *   A1  parked: the command waits for its data in slot NN_SLOT; there is no status yet
+ *   A2  GOOD, to be run by the medium or the crypto block. NN_STATUS is 00h
+ *   A3  CHECK CONDITION. NN_STATUS is 02h, NN_SENSE_KEY, NN_CODE and NN_QUALIFIER are the sense, NN_REASON says why (below)
+ *   A4  TASK SET FULL: no slot is free. NN_STATUS is 28h
+ *   H1  a lent buffer has the wrong length
+ *   H2  the token is not 16 to 64 bytes long
+ *   H3  the slot is above 15, free or unsound
+ *   H4  the slot holds a command that takes no data. No call gives it: such a slot is unsound, and so H3
+ *   H5  the unit is above 7 or the method above 1
+ *
+ * A0 to A4 are for the initiator; H1 to H5 tell the store that it called wrongly, and they change no byte. */
+#define NN_A0 0x00
+#define NN_A1 0x01
+#define NN_A2 0x02
+#define NN_A3 0x03
+#define NN_A4 0x04
+#define NN_H1 0x11
+#define NN_H2 0x12
+#define NN_H3 0x13
+#define NN_H4 0x14
+#define NN_H5 0x15
+
+/* What NN_REASON gives with A3, and the sense beside it (key, code/qualifier). The first that applies is given.
+ *
+ *   1    5h  25h/00h  the unit is above 7, or its record sound and unused
+ *   1Bh  4h  44h/00h  the unit's record is unsound (written 1b)
+ *   2    5h  20h/00h  the command is empty or its code unknown
+ *   3    5h  24h/00h  its length is neither the bare CDB's nor 78 bytes more
+ *   4    5h  24h/00h  A2h, B5h: protocol not 07h, page unlisted, or bit 7 of byte 4 set
+ *   6    5h  24h/00h  bare, and the unit is CAPKEY or the command wants a master key
+ *   7    5h  24h/00h  capability: format not 1h
+ *   8    5h  24h/00h  capability: method not CAPKEY where CAPKEY rules, else above 1
+ *   9    5h  24h/00h  capability: algorithm not 1, where CAPKEY rules
+ *   10   5h  24h/00h  capability: expired
+ *   11   5h  24h/00h  capability: a needed permission bit is missing
+ *   12   5h  24h/00h  capability: policy tag not zero and not the unit's
+ *   13   5h  24h/00h  capability: not for this unit's identifier
+ *   14   5h  24h/00h  CAPKEY rules and there is no such key
+ *   15   5h  24h/00h  the integrity check value differs
+ *   16   5h  1Ah/00h  B5h: bytes 6-9 are not the page's total
+ *   17   5h  24h/00h  A2h, page 0012h: no seed exchange is pending
+ *   18   5h  1Ah/00h  B5h: the data are not as long as bytes 6-9 say
+ *   19   5h  26h/00h  B5h: page code, page length, a field or a named zero of the data is wrong
+ *
+ * There is no reason 5. 18 and 19 come only from nn_close. */
+#define NN_REASON_UNSOUND 0x1b
+
+/*
+ * nn_build - build a unit's record
+ *
+ * Gets:    the unit table; the unit, 0 to 7; the method, 0 NOSEC or 1 CAPKEY; the policy access tag, any; the unit's identifier and its
+ *          authentication and generation master keys.
+ * Gives:   H1  units_len is not 4,096
+ *          H5  unit above 7 or method above 1
+ *          A0  with count 0
+ * Leaves:  with A0 the unit's record is new, whatever stood there: no working key is valid and no seed exchange is pending; the other
+ *          records are kept. With H1 and H5 every byte is kept.
+ */
+uint64_t nn_build(uint8_t *units, size_t units_len, uint32_t unit, uint32_t method, uint32_t tag,
+                  const uint8_t identifier[NN_IDENTIFIER_LEN], const uint8_t auth_key[NN_KEY_LEN],
+                  const uint8_t gen_key[NN_KEY_LEN]);
+
+/*
+ * nn_open - a command has come
+ *
+ * Gets:    the three buffers; the unit; the command, which is the CDB alone (bare) or the CDB with 78 bytes after it, the capability's
+ *          descriptor (58) and its integrity check value (20) (wrapped); the security token of the path that it came by; the clock, in
+ *          milliseconds, which may go back.
+ * Gives:   H1  units_len is not 4,096, slots_len not 8,192 or reply_len not 512
+ *          H2  token_len is not 16 to 64
+ *          A3  with a reason from 1 to 17
+ *          A1  a command that carries data out passed, and waits in that slot, the lowest that is free: hand its data to nn_close
+ *          A4  it passed, and no slot is free
+ *          A0  a page of SECURITY PROTOCOL IN passed: its first NN_COUNT bytes stand in the reply, as many as the page has or as bytes
+ *              6-9 of the command allow
+ *          A2  any other command passed: run it
+ * Leaves:  A0 the reply's first NN_COUNT bytes new; A1 that slot new; everything else is kept, by the other answers every byte.
+ */
+uint64_t nn_open(uint8_t *units, size_t units_len, uint8_t *slots, size_t slots_len, uint8_t *reply, size_t reply_len,
+                 uint32_t unit, const uint8_t *command, size_t command_len, const uint8_t *token, size_t token_len,
+                 uint64_t clock);
+
+/*
+ * nn_close - the data of a parked command have come
+ *
+ * Gets:    the three buffers; the slot; the data; the clock. The command is judged again from the start, by the unit's record as it
+ *          is now and by this clock; for SECURITY PROTOCOL OUT (B5h) the data are the parameter list, for other commands they are not
+ *          looked at.
+ * Gives:   H1  units_len is not 4,096, slots_len not 8,192 or reply_len not 512
+ *          H3  the slot is above 15, free or unsound
+ *          A3  with a reason from 1 to 19, but not 2, 3 or 17, which a parked command can't have
+ *          A2  the command passed: run it with its data
+ *          A0  with count 0: a page of SECURITY PROTOCOL OUT passed and is done
+ * Leaves:  with A0, A2 and A3 the slot is free; with A0 the unit's record is new, as the page says. Everything else is kept, by H1 and
+ *          H3 every byte.
+ */
+uint64_t nn_close(uint8_t *units, size_t units_len, uint8_t *slots, size_t slots_len, uint8_t *reply, size_t reply_len,
+                  uint32_t slot, const uint8_t *data, size_t data_len, uint64_t clock);
+
+/*
+ * nn_abort - a parked command is given up
+ *
+ * Gets:    the slot table; the slot.
+ * Gives:   H1  slots_len is not 8,192
+ *          H3  the slot is above 15, free or unsound
+ *          A0  with count 0
+ * Leaves:  with A0 the slot is free; every other byte is kept, by H1 and H3 every byte.
+ */
+uint64_t nn_abort(uint8_t *slots, size_t slots_len, uint32_t slot);
+
+/*
+ * nn_reset - every parked command is given up
+ *
+ * Gets:    the slot table.
+ * Gives:   H1  slots_len is not 8,192
+ *          A0  with count 0
+ * Leaves:  with A0 all sixteen slots are free, unsound ones too: nothing else heals an unsound slot. By H1 every byte is kept.
+ */
+uint64_t nn_reset(uint8_t *slots, size_t slots_len);
+
+/*
+ * nectarnook_sha1 - the SHA-1 of len bytes into out
+ */
+void nectarnook_sha1(const uint8_t *message, size_t len, uint8_t out[20]);
+
+/*
+ * nectarnook_hmac_sha1 - the HMAC-SHA1 of len bytes under a key of any length into out
+ */
+void nectarnook_hmac_sha1(const uint8_t *key, size_t key_len, const uint8_t *message, size_t len, uint8_t out[20]);
+
+#ifdef __cplusplus
+}
+#endif
+
+#endif
