@@ -1,22 +1,21 @@
 -- After a GOOD Change, and until that version is set again, no command is GOOD under a working key's version.
-use mathlib.Core.Path.{_≡_, refl, sym, ap, _∙_, subst}
+use mathlib.Core.Path.{_≡_, refl, ap, _∙_}
 use mathlib.Core.Bool.{Bool, true, false}
-use mathlib.Core.Option.{Option, none, some}
+use mathlib.Core.Option.{none}
 use mathlib.Core.List.{List, [], _∷_, _++_}
 use Prim.Native.Nat.{ℕ}
 use lib.Dec.{eqb}
 use Rattle.choice.specs.Choice.{both, pick}
 use Rattle.model.specs.declared.Answer.{Answer}
 use Rattle.units.specs.Unit.{unitAt, method}
-use Rattle.judge.specs.Command.{codeOf, pageOf, needFor, isMaster, isChange, isOpenRow}
+use Rattle.judge.specs.Command.{pageOf, needFor, isMaster, isChange, isOpenRow}
 use Rattle.judge.specs.Descriptor.{keyVersion}
 use Rattle.judge.specs.Checked.{behindCdb}
 use Rattle.pages.specs.Out.{newVersion, seed, agreed}
 use Rattle.calls.specs.Run.{Tables, Call, Event, Meets, Ran, ledgerOf, starts, Done, doneIn, dones}
 use Rattle.calls.specs.Sequence.{SoundTables}
 use Rattle.calls.specs.History.{KeySet, startKeys, keySet, seedExchanged, masterChanged, keyCommand, isKeyCommand, history, keySaid}
-use Rattle.calls.specs.GoodChecked.{keysBefore}
-use Rattle.calls.specs.Engineer.{isRefused, keyNow, keyless-refused}
+use Rattle.calls.specs.Engineer.{isRefused, keyless-refused}
 
 -- is it a GOOD Set Key of version v at unit u?
 abbrev pub setsVersion : ℕ → ℕ → Done → Bool

@@ -1,5 +1,4 @@
 -- The call build (document 01, "What a call gets and gives"): its answer and the unit table that it leaves, for any input.
-use mathlib.Core.Bool.{Bool}
 use mathlib.Core.List.{List}
 use Prim.Native.Nat.{ℕ, _*_}
 use lib.Dec.{eqb, leb}

@@ -1,18 +1,15 @@
 -- Laws of build: case by case, and what a good one leaves.
-use mathlib.Core.Path.{_≡_, refl, sym, ap, _∙_}
+use mathlib.Core.Path.{_≡_}
 use mathlib.Core.List.{List}
-use Prim.Native.Nat.{ℕ, _*_, _+_, _^_, _≤_, _<_}
+use Prim.Native.Nat.{ℕ, _*_, _^_, _≤_, _<_}
 use native.Mathlib.Omega.{arith}
-use lib.Dec.{eqb, leb}
 use lib.ListN.{length}
 use borrow.Author.Tests.{eq-eqb, ne-eqb, le-leb, lt-leb}
-use Rattle.choice.specs.Choice.{both, pick}
-use Rattle.wire.specs.Bytes.{part, patch}
-use Rattle.wire.specs.PatchLaws.{record-here, record-other, record-length}
+use Rattle.wire.specs.Bytes.{patch}
+use Rattle.wire.specs.PatchLaws.{record-here, record-other}
 use Rattle.model.specs.declared.Answer.the-variants.{Good, H1, H5}
-use Rattle.units.specs.declared.UnitState.{UnitState}
 use Rattle.units.specs.declared.UnitState.the-variants.{Used}
-use Rattle.units.specs.Unit.{unitAt, unitState, unitStateOf, builtRecord}
+use Rattle.units.specs.Unit.{unitAt, unitState, builtRecord}
 use Rattle.units.specs.BuiltLaws.{built-length, built-used}
 use Rattle.calls.specs.Outcome.{out}
 use Rattle.calls.specs.Build.{buildOut}

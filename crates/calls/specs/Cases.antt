@@ -1,8 +1,8 @@
 -- The cases of a plan: what holds of each plan that an open or a close can make holds of the one that it makes.
-use mathlib.Core.Path.{_≡_, refl, sym, ap, _∙_}
+use mathlib.Core.Path.{_≡_, refl}
 use mathlib.Core.Bool.{Bool, true, false}
 use mathlib.Core.List.{List}
-use Prim.Native.Nat.{ℕ, _<_}
+use Prim.Native.Nat.{ℕ}
 use lib.Dec.{eqb, leb}
 use lib.ListN.{length}
 use borrow.Author.Tests.{eqb-true, eqb-false}
@@ -26,7 +26,8 @@ use Rattle.calls.specs.declared.opening.Opening.the-variants.{Say, Reply
 use Rattle.calls.specs.declared.closing.Closing.{Closing}
 use Rattle.calls.specs.declared.closing.Closing.the-variants.{Keep, End, Obey}
 
-pick-cases : {A : Type 0} (P : A → Type 0) (b : Bool) (x y : A) → (b ≡ true → P x) → (b ≡ false → P y) → P (pick b x y)
+-- a choice, with the test that made it
+pub pick-cases : {A : Type 0} (P : A → Type 0) (b : Bool) (x y : A) → (b ≡ true → P x) → (b ≡ false → P y) → P (pick b x y)
 pick-cases P true x y p q = p refl
 pick-cases P false x y p q = q refl
 

@@ -1,6 +1,6 @@
 -- The call close (document 01): its answer and every lent byte that it leaves, for any input. First what it does is planned, from what
 -- is lent alone; then the plan is applied. H4 has no place: an open slot is sound only with a data-out command.
-use mathlib.Core.Bool.{Bool, not}
+use mathlib.Core.Bool.{not}
 use mathlib.Core.List.{List, [], _∷_, _++_}
 use Prim.Native.Nat.{ℕ, _*_}
 use lib.Dec.{eqb, leb}

@@ -1,32 +1,31 @@
 -- Laws of close: how a plan is made, test by test; what a plan tells of the command and its list; and how the call goes.
 use mathlib.Core.Path.{_≡_, refl, sym, ap, _∙_}
 use mathlib.Core.Bool.{Bool, true, false, not}
-use mathlib.Core.List.{List, [], _∷_, _++_}
-use Prim.Native.Nat.{ℕ, _+_, _*_, _≤_, _<_}
+use mathlib.Core.List.{List, [], _∷_}
+use Prim.Native.Nat.{ℕ, _+_, _≤_, _<_}
 use native.Mathlib.Omega.{arith}
 use lib.Dec.{eqb, leb}
 use lib.ListN.{length}
-use borrow.Author.Tests.{eqb-true, leb-true, eq-eqb, ne-eqb, le-leb, lt-leb}
+use borrow.Author.Tests.{eqb-true, leb-true, ne-eqb, le-leb, lt-leb, not-false}
 use Rattle.choice.specs.Choice.{both, pick}
 use Rattle.choice.specs.ChoiceLaws.{both-true}
-use Rattle.wire.specs.Bytes.{part, number, patch}
+use Rattle.wire.specs.Bytes.{number}
 use Rattle.model.specs.CodeLaws.{legal-small}
 use Rattle.model.specs.Refusal.{refusal}
 use Rattle.model.specs.Totals.{totalOf}
 use Rattle.model.specs.declared.UnitNo.{UnitNo}
 use Rattle.model.specs.declared.Answer.{Answer}
-use Rattle.model.specs.declared.Answer.the-variants.{Good, Run, H1, H3}
-use Rattle.units.specs.Unit.{step, keySetOf, unitAt}
-use Rattle.slots.specs.Slot.{slotAt, slotStateOf, isOpen, slotUnit, slotCommand, slotToken, commandLength, tokenLength, freed}
-use Rattle.slots.specs.SlotLaws.{Sound, open-sound}
+use Rattle.model.specs.declared.Answer.the-variants.{Run, H1, H3}
+use Rattle.units.specs.Unit.{step, keySetOf}
+use Rattle.slots.specs.Slot.{slotAt, slotStateOf, isOpen, slotUnit, slotCommand, slotToken, commandLength, tokenLength}
+use Rattle.slots.specs.SlotLaws.{open-sound}
 use Rattle.slots.specs.declared.SlotState.{SlotState}
 use Rattle.slots.specs.declared.SlotState.the-variants.{Free, Open, Unsound}
 use Rattle.judge.specs.Command.{codeOf, pageOf}
-use Rattle.judge.specs.Judgement.{Test, test, first, pageTests, openTests, openReason}
-use Rattle.judge.specs.OrderLaws.{orElse, Passed, first-append, first-none, or-else-none, else-first, reason-none, open-passed, open-named}
+use Rattle.judge.specs.Judgement.{test, first, pageTests, openTests, openReason}
+use Rattle.judge.specs.OrderLaws.{orElse, first-append, first-none, or-else-none, else-first, reason-none, open-passed, open-named}
 use Rattle.pages.specs.Out.{wrongList}
-use Rattle.pages.specs.Effects.{newRecord}
-use Rattle.calls.specs.Lent.{Lent, lent, Outcome, gives, rightlyLent}
+use Rattle.calls.specs.Lent.{Lent, gives, rightlyLent}
 use Rattle.calls.specs.Close.{listTests, closeReason, endPlan, rejudgedPlan, heldPlan, closePlan, applyClose, closeOut}
 use Rattle.calls.specs.declared.closing.Closing.{Closing}
 use Rattle.calls.specs.declared.closing.Closing.the-variants.{Keep, End, Obey}
@@ -49,15 +48,11 @@ module _ (units : List ℕ) (u : ℕ) (c token d : List ℕ) (clock : ℕ) where
   pub close-none : closeReason units u c token d clock ≡ 0 → (openReason units u c token clock ≡ 0) × (first (listTests c d) ≡ 0)
   close-none e = or-else-none (openReason units u c token clock) (first (listTests c d)) (close-order ∙ e)
 
--- a parameter list that passed: as long as its page's total, and nothing wrong with it
-off : (b : Bool) → not b ≡ false → b ≡ true
-off true h = refl
-off false h = sym h
-
 here : (b x : Bool) → b ≡ true → both b x ≡ false → x ≡ false
 here true x t e = e
 here false x t e = let z : _≡_ {A = ℕ} 0 1 = cc in absurd (omega arith)
 
+-- a parameter list that passed: as long as its page says, and nothing wrong with it
 pub list-passed : (units : List ℕ) (u : ℕ) (c token d : List ℕ) (clock : ℕ) → closeReason units u c token d clock ≡ 0 → eqb (codeOf c) 0xB5 ≡ true
     → (length d ≡ totalOf (pageOf c)) × (wrongList (pageOf c) d ≡ false)
 unfolding listTests pageTests
@@ -70,8 +65,8 @@ list-passed units u c token d clock e t =
     let t16 = first-none (test 16 (both b told)) (test 17 pending ∷ []) refl (reason-none units u c token clock (n .0) .3) in
     let t18 = first-none (test 18 (both b short)) (test 19 (both b (wrongList (pageOf c) d)) ∷ []) refl (n .1) in
     let t19 = first-none (test 19 (both b (wrongList (pageOf c) d))) [] refl (t18 .1) in
-    let total = eqb-true (number 4 6 c) (totalOf (pageOf c)) (off _ (here b told t (t16 .0))) in
-    let long = eqb-true (length d) (number 4 6 c) (off _ (here b short t (t18 .0))) in
+    let total = eqb-true (number 4 6 c) (totalOf (pageOf c)) (not-false _ (here b told t (t16 .0))) in
+    let long = eqb-true (length d) (number 4 6 c) (not-false _ (here b short t (t18 .0))) in
     (long ∙ total, here b (wrongList (pageOf c) d) t (t19 .0))
 
 -- ---- how a plan is made

@@ -1,6 +1,6 @@
 -- Examples on the edges (document 01), a) to l), as one table: a) to g) stand in judge, h) to j) in model, k) and l) here.
 use mathlib.Core.Path.{_≡_, refl}
-use mathlib.Core.Bool.{Bool, true, false, not}
+use mathlib.Core.Bool.{true}
 use mathlib.Core.List.{List, [], _∷_, _++_}
 use lib.Dec.{eqb}
 use lib.ListN.{take}

@@ -1,34 +1,27 @@
 -- The line engineer's case, by name: what holds at any step of any run from sound tables.
-use mathlib.Core.Path.{_≡_, refl, sym, ap, ap₂, _∙_, subst}
-use mathlib.Core.Logic.{_⊎_, inl, inr, ⊎-elim}
+use mathlib.Core.Path.{_≡_, refl, sym, ap, _∙_}
+use mathlib.Core.Logic.{⊎-elim}
 use mathlib.Core.Bool.{Bool, true, false}
 use mathlib.Core.Option.{Option, none, some}
-use mathlib.Core.List.{List, [], _∷_, _++_}
-use Prim.Native.Nat.{ℕ, _+_, _*_, _≤_, _<_}
+use mathlib.Core.List.{List, [], _∷_}
+use Prim.Native.Nat.{ℕ, _+_, _≤_, _<_}
 use native.Mathlib.Omega.{arith}
-use lib.Dec.{eqb}
-use lib.ListN.{length}
-use borrow.Author.Tests.{eqb-true}
-use Rattle.choice.specs.Choice.{both, pick}
-use Rattle.choice.specs.ChoiceLaws.{both-true}
-use Rattle.wire.specs.Bytes.{part, patch}
+use Rattle.wire.specs.Bytes.{part}
 use Rattle.hmac.specs.Hmac.{hmac, bySha1}
 use Rattle.model.specs.Rows.{listed}
 use Rattle.model.specs.declared.Answer.{Answer}
 use Rattle.model.specs.declared.Answer.the-variants.{Good, Parked, Run, Check, Full, H1, H2, H3, H4, H5}
 use Rattle.units.specs.Unit.{unitAt, method, policyTag}
-use Rattle.judge.specs.Command.{codeOf, pageOf, needFor, isMaster, isChange, isOpenRow}
+use Rattle.judge.specs.Command.{codeOf, needFor, isMaster, isChange, isOpenRow}
 use Rattle.judge.specs.Descriptor.{keyVersion, expiration, capTag}
 use Rattle.judge.specs.OrderLaws.{open-passed}
-use Rattle.judge.specs.Checked.{behindCdb, Checked}
-use Rattle.pages.specs.Out.{newVersion, seed, agreed}
+use Rattle.judge.specs.Checked.{behindCdb}
 use Rattle.calls.specs.CloseLaws.{close-none}
 use Rattle.calls.specs.Answers.{isGood, isFinal}
-use Rattle.calls.specs.Whole.{Asked, Whole, whole}
 use Rattle.calls.specs.WholeCases.{whole-final}
-use Rattle.calls.specs.Run.{Tables, Call, Event, Meets, Ran, ledgerOf, starts, Done, doneIn, dones}
+use Rattle.calls.specs.Run.{Tables, Call, Event, Meets, Ran, ledgerOf, starts, Done, doneIn}
 use Rattle.calls.specs.Sequence.{SoundTables}
-use Rattle.calls.specs.History.{KeySet, startKeys, keySet, seedExchanged, masterChanged, keyCommand, isKeyCommand, history, keySaid}
+use Rattle.calls.specs.History.{keySaid}
 use Rattle.calls.specs.GoodChecked.{CheckedBy, keysBefore, good-none, answer-is, good-checked}
 
 -- refused: CHECK CONDITION, so that neither the medium nor the crypto block gets it, and no record changes

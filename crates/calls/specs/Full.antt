@@ -8,7 +8,6 @@ use native.Mathlib.Omega.{arith}
 use lib.ListN.{length}
 use borrow.Author.Tests.{eq-eqb}
 use Rattle.model.specs.Codes.{dataOut}
-use Rattle.model.specs.declared.SlotNo.{SlotNo}
 use Rattle.model.specs.declared.Answer.{Answer}
 use Rattle.model.specs.declared.Answer.the-variants.{Good, Parked, Run, Check, Full, H1, H2, H3, H4, H5}
 use Rattle.slots.specs.Slot.{slotAt, slotStateOf, isFree, lowestFree}
@@ -24,11 +23,11 @@ use Rattle.calls.specs.Open.{rightToken, slotPlan, applyOpen, openOut}
 use Rattle.calls.specs.OpenLaws.{lengths-are}
 use Rattle.calls.specs.Cases.{Opens}
 use Rattle.calls.specs.Answers.{isFinal, told-apart}
-use Rattle.calls.specs.Whole.{Asked, Whole, whole}
+use Rattle.calls.specs.Whole.{Asked, whole}
 use Rattle.calls.specs.WholeCases.{whole-final}
-use Rattle.calls.specs.Run.{Tables, opens, Event, Meets, Ran, Ledger, ledgerOf, View, vacant, held, damaged, viewBy, view, toView, starts}
+use Rattle.calls.specs.Run.{Tables, opens, Event, Meets, Ran, Ledger, ledgerOf, held, viewBy, view, toView, starts}
 use Rattle.calls.specs.StepLaws.{Fits, open-by, parked-out}
-use Rattle.calls.specs.Sequence.{SoundTables, Sequence, sequence}
+use Rattle.calls.specs.Sequence.{SoundTables, sequence}
 
 -- the command passes: a reply of 512 bytes, a token of 16 to 64, no reason of 1 to 17, and it carries data out
 pub record Passes (units : List ℕ) (k : Asked) (clock : ℕ) (reply : List ℕ) : Type 0 where

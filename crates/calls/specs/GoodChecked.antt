@@ -1,36 +1,32 @@
 -- Demand 3, GOOD means checked: each guarded GOOD on a CAPKEY unit passed every capability check against the records just before that step,
 -- under the key that the starting keys and the GOOD key commands since say was valid. The same for master rows on units of either method.
-use mathlib.Core.Path.{_≡_, refl, sym, ap, ap₂, _∙_, subst}
+use mathlib.Core.Path.{_≡_, refl, sym, ap, _∙_, subst}
 use mathlib.Core.Bool.{Bool, true, false}
-use mathlib.Core.Option.{Option, none, some}
+use mathlib.Core.Option.{none, some}
 use mathlib.Core.List.{List, [], _∷_}
-use Prim.Native.Nat.{ℕ, _+_, _%_, _<_}
+use Prim.Native.Nat.{ℕ, _<_}
 use native.Mathlib.Omega.{arith}
-use lib.Dec.{eqb}
-use lib.ListN.{length, getD}
-use borrow.Author.Tests.{eq-eqb}
-use Rattle.choice.specs.Choice.{both, either, pick}
-use Rattle.choice.specs.ChoiceLaws.{either-right}
+use Rattle.choice.specs.Choice.{pick}
 use Rattle.model.specs.Refusal.{refusal}
 use Rattle.model.specs.declared.Need.{Need}
 use Rattle.model.specs.declared.Need.the-variants.{Unknown, Open, Bits, Master}
 use Rattle.model.specs.declared.Answer.{Answer}
-use Rattle.model.specs.declared.Answer.the-variants.{Good, Parked, Run, Check, Full, H1, H2, H3, H4, H5}
-use Rattle.units.specs.Unit.{unitAt, keySetOf, validKey, workingKeyOf, isValid, workingKey, authKey, nextAuthKey, step, method}
-use Rattle.judge.specs.Command.{codeOf, needFor, isMaster, isChange, isOpenRow}
+use Rattle.units.specs.Unit.{unitAt, keySetOf, validKey, workingKeyOf, isValid, workingKey, authKey, nextAuthKey, method}
+use Rattle.judge.specs.Command.{needFor, isMaster, isChange, isOpenRow}
 use Rattle.judge.specs.Descriptor.{keyVersion}
 use Rattle.judge.specs.Keys.{keyFound, keyUsed}
-use Rattle.judge.specs.Judgement.{openReason, rulesFor}
-use Rattle.judge.specs.OrderLaws.{Passed, open-passed}
+use Rattle.judge.specs.Judgement.{rulesFor}
+use Rattle.judge.specs.JudgementLaws.{capkey-rules, master-rules}
+use Rattle.judge.specs.OrderLaws.{open-passed}
 use Rattle.judge.specs.Checked.{behindCdb, Checked}
 use Rattle.judge.specs.CheckedLaws.{guarded-key, guarded-checked}
 use Rattle.calls.specs.CloseLaws.{close-none}
-use Rattle.calls.specs.Answers.{isGood, told-apart}
-use Rattle.calls.specs.Whole.{Asked, Whole, whole-of, whole}
+use Rattle.calls.specs.Answers.{isGood}
+use Rattle.calls.specs.Whole.{Asked, Whole, whole}
 use Rattle.calls.specs.WholeCases.{wholeReason, whole-cases}
-use Rattle.calls.specs.Run.{Tables, Call, Event, event, Meets, Ran, ledgerOf, starts, Done, doneIn, dones, Singly}
-use Rattle.calls.specs.StepLaws.{Fits, Stepped, step as call-step}
-use Rattle.calls.specs.Sequence.{SoundTables, Sequence, sequence}
+use Rattle.calls.specs.Run.{Tables, Call, Event, Meets, Ran, ledgerOf, starts, Done, doneIn, dones, Singly}
+use Rattle.calls.specs.StepLaws.{Fits, step as call-step}
+use Rattle.calls.specs.Sequence.{SoundTables, sequence}
 use Rattle.calls.specs.History.{KeySet, startKeys, history, keySaid}
 use Rattle.calls.specs.HistoryLaws.{Says, says-start, says-run}
 
@@ -78,16 +74,6 @@ whole-checked units k d clock keys says good rules guarded =
           (version-small (behindCdb (k .command)) (k .command)) (guarded-key units (k .unit) (k .command) (k .token) clock none rules guarded);
       checks = guarded-checked units (k .unit) (k .command) (k .token) clock none rules guarded;
     }
-
--- ---- where CAPKEY rules: on CAPKEY units, and for master rows always
-
-pub capkey-rules : (rec c : List ℕ) → method rec ≡ 1 → rulesFor rec c ≡ true
-unfolding rulesFor
-capkey-rules rec c e = rw (eq-eqb (method rec) 1 e)
-
-pub master-rules : (rec c : List ℕ) → isMaster (needFor c) ≡ true → rulesFor rec c ≡ true
-unfolding rulesFor
-master-rules rec c e = either-right (eqb (method rec) 1) (isMaster (needFor c)) e
 
 master-guarded : (n : Need) → isMaster n ≡ true → isOpenRow n ≡ false
 master-guarded Unknown e = refl

@@ -1,31 +1,30 @@
 -- The records always say what the key history says.
 use mathlib.Core.Path.{_≡_, refl, sym, ap, ap₂, _∙_, subst}
 use mathlib.Core.Bool.{Bool, true, false}
-use mathlib.Core.Option.{Option, none, some}
+use mathlib.Core.Option.{none, some}
 use mathlib.Core.List.{List, [], _∷_, _++_}
 use Prim.Native.Nat.{ℕ, _*_, _<_}
 use native.Mathlib.Omega.{arith}
 use lib.Dec.{eqb}
 use lib.ListN.{length, drop, length-drop}
 use lib.Seq.{length-take-le}
-use borrow.Author.Tests.{eqb-true, eqb-false, eq-eqb, ne-eqb}
+use borrow.Author.Tests.{eqb-true, eqb-false, eq-eqb}
 use Rattle.choice.specs.Choice.{both, pick}
-use Rattle.choice.specs.ChoiceLaws.{both-true}
 use Rattle.hmac.specs.Hmac.{hmac, bySha1}
-use Rattle.model.specs.declared.Answer.the-variants.{Good, Run}
+use Rattle.model.specs.declared.Answer.the-variants.{Good}
 use Rattle.model.specs.Refusal.{refusal}
 use Rattle.units.specs.Unit.{unitAt, step, identifier, authKey, genKey, nextAuthKey, nextGenKey, isValid, workingKey}
 use Rattle.judge.specs.Command.{codeOf, pageOf}
 use Rattle.pages.specs.Out.{newMethod, newTag, newVersion, seed, agreed, wrongList}
 use Rattle.pages.specs.OutLaws.{right-version}
 use Rattle.pages.specs.Effects.{attributesSet, workingKeySet, lastFlipped, nextAuth, nextGen, exchanged, changed, newRecord}
-use Rattle.pages.specs.FieldLaws.{SameMaster, SameNext, SameWorking}
+use Rattle.pages.specs.FieldLaws.{SameWorking}
 use Rattle.pages.specs.EffectLaws.{attributes-master, attributes-next, attributes-working, key-master, key-next, key-valid, key-working, key-other-valid, key-other-working, exchanged-master, exchanged-working, exchanged-step, exchanged-next-auth, exchanged-next-generation, changed-identifier, changed-auth, changed-generation, changed-valid, changed-step, changed-next-auth, changed-next-generation}
 use Rattle.calls.specs.Answers.{isHandled}
-use Rattle.calls.specs.Whole.{Asked, Whole, whole-of, obeyed, whole}
-use Rattle.calls.specs.WholeCases.{whole-cases, whole-length, whole-others, Obeys, obeys, obeyed-here, obeyed-others}
+use Rattle.calls.specs.Whole.{Whole, obeyed, whole}
+use Rattle.calls.specs.WholeCases.{whole-cases, whole-length, Obeys, obeys, obeyed-here, obeyed-others}
 use Rattle.calls.specs.Run.{Done, Singly}
-use Rattle.calls.specs.History.{KeySet, startKeys, keySet, seedExchanged, masterChanged, keyCommand, isKeyCommand, history, keySaid}
+use Rattle.calls.specs.History.{KeySet, startKeys, keySet, seedExchanged, masterChanged, keyCommand, isKeyCommand, history}
 
 -- a record says what a key set says
 pub record Says (k : KeySet) (rec : List ℕ) : Type 0 where

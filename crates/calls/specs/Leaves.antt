@@ -1,12 +1,12 @@
 -- What each answer leaves, as document 01's table has it ("What a call gets and gives"): of an open and of a close.
 use mathlib.Core.Path.{_≡_, refl, sym, ap, _∙_, subst}
-use mathlib.Core.Bool.{Bool, true, false}
+use mathlib.Core.Bool.{true}
 use mathlib.Core.List.{List}
-use Prim.Native.Nat.{ℕ, _≤_, _<_}
+use Prim.Native.Nat.{ℕ}
 use native.Mathlib.Omega.{arith}
 use lib.Dec.{eqb}
 use lib.ListN.{length, take, drop}
-use lib.Seq.{drop-at, length-take-le}
+use lib.Seq.{take-at, drop-at, length-take-le}
 use Rattle.wire.specs.Bytes.{number, patch}
 use Rattle.model.specs.Codes.{dataOut}
 use Rattle.model.specs.CodeLaws.{legal-small}
@@ -69,6 +69,11 @@ LeftByClose l m s H5 = m ≡ l
 pub behind-front : (l ys : List ℕ) (n : ℕ) → length ys ≡ n → drop n (patch l 0 ys) ≡ drop n l
 unfolding patch
 behind-front l ys n e = drop-at ys (drop (length ys) l) n e ∙ ap (λ (k : ℕ). drop k l) e
+
+-- and stand there
+pub front-written : (l ys : List ℕ) (n : ℕ) → length ys ≡ n → take n (patch l 0 ys) ≡ ys
+unfolding patch
+front-written l ys n e = take-at ys (drop (length ys) l) n e
 
 -- an outcome that is known tells the answer and what is left
 told-open : (l m k : Lent) (a b : Answer) → gives a m ≡ gives b k → LeftByOpen l k b → LeftByOpen l m a

@@ -1,31 +1,28 @@
 -- Facts by name about open and close, each of which shuts out a program that document 01 will not have ("What to prove, and programs
 -- that don't pass").
 use mathlib.Core.Path.{_≡_, refl, sym, ap, _∙_, subst}
-use mathlib.Core.Bool.{Bool, true, false, not}
-use mathlib.Core.List.{List, [], _∷_}
-use Prim.Native.Nat.{ℕ, _+_, _≤_, _<_, min}
+use mathlib.Core.Bool.{true, false}
+use mathlib.Core.List.{List}
+use Prim.Native.Nat.{ℕ, _≤_, min}
 use native.Mathlib.Omega.{arith}
-use lib.Dec.{eqb, ltb}
-use lib.ListN.{length, take, drop}
-use lib.Seq.{take-at, length-take-le}
-use borrow.Author.Tests.{eqb-true, eq-eqb, ne-eqb, le-ltb}
-use Rattle.choice.specs.Choice.{both, either, pick}
+use lib.Dec.{eqb}
+use lib.ListN.{length, take}
+use lib.Seq.{length-take-le}
+use borrow.Author.Tests.{ne-eqb, le-ltb}
 use Rattle.wire.specs.Bytes.{number, patch}
 use Rattle.model.specs.Rows.{rows, listed, needOf}
 use Rattle.model.specs.RowLaws.{page-ignored}
 use Rattle.model.specs.Codes.{dataOut, legalLen}
 use Rattle.model.specs.CodeLaws.{legal-some}
 use Rattle.model.specs.Refusal.{refusal}
-use Rattle.model.specs.declared.Need.{Need}
 use Rattle.model.specs.declared.Need.the-variants.{Open}
 use Rattle.model.specs.declared.Answer.{Answer}
-use Rattle.model.specs.declared.Answer.the-variants.{Good, Parked, Run, Check, Full, H1, H2, H3, H4, H5}
-use Rattle.units.specs.declared.UnitState.{UnitState}
+use Rattle.model.specs.declared.Answer.the-variants.{Good, Parked, Run, Full, H1, H2, H3}
 use Rattle.units.specs.declared.UnitState.the-variants.{Used}
 use Rattle.units.specs.Unit.{unitState, unitAt, keySetOf, method, isValid, workingKey, genKey}
 use Rattle.judge.specs.Command.{codeOf, pageOf, isBare, isOpenRow, needFor}
-use Rattle.judge.specs.Judgement.{unitTests, commandTests, skipsGuard, guardTests, pageTests, openTests, openReason, rulesFor}
-use Rattle.judge.specs.JudgementLaws.{unknown-open}
+use Rattle.judge.specs.Judgement.{unitTests, commandTests, skipsGuard, guardTests, pageTests, openTests, openReason}
+use Rattle.judge.specs.JudgementLaws.{unknown-open, capkey-rules}
 use Rattle.judge.specs.CheckedLaws.{guarded-wrapped}
 use Rattle.slots.specs.Slot.{slotAt, slotUnit, slotCommand, slotToken, freed}
 use Rattle.hmac.specs.Hmac.{hmac, bySha1}
@@ -41,10 +38,11 @@ use Rattle.pages.specs.EffectLaws.{key-valid, key-working, key-differs}
 use Rattle.calls.specs.Whole.{Asked, obeyed}
 use Rattle.calls.specs.WholeLaws.{heldBy}
 use Rattle.calls.specs.WholeCases.{obeys, obeyed-here, used-length}
-use Rattle.calls.specs.Close.{closeReason, rejudgedPlan, heldPlan, closePlan, applyClose, closeOut}
+use Rattle.calls.specs.Close.{rejudgedPlan, heldPlan, closePlan, applyClose, closeOut}
 use Rattle.calls.specs.CloseLaws.{close-early, close-none}
+use Rattle.calls.specs.Leaves.{front-written}
 use Rattle.calls.specs.Answers.{isGood, isHandled, told-apart}
-use Rattle.calls.specs.Cases.{Opens, open-cases, Closes, close-cases, slotReason}
+use Rattle.calls.specs.Cases.{open-cases, Closes, close-cases, slotReason}
 use Rattle.calls.specs.declared.closing.Closing.{Closing}
 use Rattle.calls.specs.declared.opening.Opening.{Opening}
 
@@ -85,10 +83,6 @@ count-min : (size allocation : ℕ) → countOf size allocation ≡ min size all
 unfolding countOf
 count-min size allocation = refl
 
-front-take : (l ys : List ℕ) (n : ℕ) → length ys ≡ n → take n (patch l 0 ys) ≡ ys
-unfolding patch
-front-take l ys n e = take-at ys (drop (length ys) l) n e
-
 pub record Counted (l m : Lent) (u : ℕ) (c : List ℕ) (n : ℕ) : Type 0 where
   pub count : n ≡ min (sizeOf (pageOf c)) (number 4 6 c)
   pub written : take n (m .reply) ≡ take n (inPage (pageOf c) (unitAt u (l .units)) (keySetOf (l .units) u))
@@ -119,7 +113,7 @@ reply-counted l u c token clock n m e =
         let p = one-outcome (Good n) (Good size) m (lent (l .units) (l .slots) (patch (l .reply) 0 (take size page))) _ h refl in
         let en : n ≡ size = good-count n size (p .0) in
         let er : m .reply ≡ patch (l .reply) 0 (take size page) = ap (λ (x : Lent). x .reply) (p .1) in
-        let front : take n (m .reply) ≡ take size page = rw (en, er) (front-take (l .reply) (take size page) size cut-length) in
+        let front : take n (m .reply) ≡ take size page = rw (en, er) (front-written (l .reply) (take size page) size cut-length) in
         record { count = en ∙ count-min (sizeOf (pageOf c)) (number 4 6 c); written = rw en (rw en at front); as-many = ap length front ∙ cut-length ∙ sym en }
 
 -- ---- what GOOD tells: nothing refused, at the open or at the close
@@ -162,10 +156,6 @@ close-judges l s d clock o n =
     rw (o .lengths, o .held, sym (close-early (l .units) u c t d clock r refl n), ne-eqb r 0 n)
 
 -- ---- on a CAPKEY unit no command but an open row is GOOD without a capability
-
-capkey-rules : (rec c : List ℕ) → method rec ≡ 1 → rulesFor rec c ≡ true
-unfolding rulesFor
-capkey-rules rec c e = rw (eq-eqb (method rec) 1 e)
 
 pub capkey-open : (l : Lent) (u : ℕ) (c token : List ℕ) (clock : ℕ) (a : Answer) (m : Lent) → gives a m ≡ openOut l u c token clock → isGood a ≡ true
     → method (unitAt u (l .units)) ≡ 1 → isOpenRow (needFor c) ≡ false → isBare c ≡ false

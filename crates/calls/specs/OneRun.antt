@@ -7,7 +7,7 @@ use lib.Dec.{eqb, leb}
 use lib.ListN.{length}
 use Rattle.choice.specs.Choice.{both, pick}
 use Rattle.model.specs.declared.Answer.{Answer}
-use Rattle.model.specs.declared.Answer.the-variants.{Good, Parked, Run, H1, H3}
+use Rattle.model.specs.declared.Answer.the-variants.{Good, Parked, H1, H3}
 use Rattle.slots.specs.Slot.{slotAt, slotStateOf, isOpen, freed, allFreed}
 use Rattle.calls.specs.Outcome.{Out, out, one-answer}
 use Rattle.calls.specs.Slots.{abortOut, resetOut}

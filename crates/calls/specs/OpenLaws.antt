@@ -1,32 +1,31 @@
 -- Laws of open: how a plan is made, test by test; what a plan tells of the command; and how the call goes.
-use mathlib.Core.Path.{_≡_, refl, sym, ap, _∙_}
-use mathlib.Core.Bool.{Bool, true, false, not}
+use mathlib.Core.Path.{_≡_, refl, sym}
+use mathlib.Core.Bool.{Bool, true, false}
 use mathlib.Core.List.{List}
-use Prim.Native.Nat.{ℕ, _+_, _≤_, _<_, min}
+use Prim.Native.Nat.{ℕ, _≤_, _<_}
 use native.Mathlib.Omega.{arith}
 use native.Mathlib.Nat.{min-le-left}
 use lib.Dec.{eqb, leb}
-use lib.ListN.{length, take}
-use borrow.Author.Tests.{eqb-true, leb-true, eq-eqb, ne-eqb}
-use Rattle.choice.specs.Choice.{both, pick}
+use lib.ListN.{length}
+use borrow.Author.Tests.{eqb-true, leb-true, ne-eqb}
+use Rattle.choice.specs.Choice.{pick}
 use Rattle.choice.specs.ChoiceLaws.{both-true}
-use Rattle.wire.specs.Bytes.{number, patch}
+use Rattle.wire.specs.Bytes.{number}
 use Rattle.model.specs.Codes.{dataOut}
 use Rattle.model.specs.CodeLaws.{legal-small}
 use Rattle.model.specs.Refusal.{refusal}
 use Rattle.model.specs.declared.SlotNo.{SlotNo}
 use Rattle.model.specs.declared.Answer.{Answer}
-use Rattle.model.specs.declared.Answer.the-variants.{Good, Parked, Run, Full, H1, H2}
-use Rattle.units.specs.Unit.{unitAt, keySetOf}
-use Rattle.slots.specs.Slot.{lowestFree, parked}
+use Rattle.model.specs.declared.Answer.the-variants.{Run, H1, H2}
+use Rattle.slots.specs.Slot.{lowestFree}
 use Rattle.slots.specs.SearchLaws.{lowest}
 use Rattle.slots.specs.declared.Found.{Found}
 use Rattle.slots.specs.declared.Found.the-variants.{At, Nothing}
 use Rattle.judge.specs.Command.{codeOf, pageOf}
 use Rattle.judge.specs.Judgement.{openReason}
-use Rattle.judge.specs.OrderLaws.{Passed, open-passed}
-use Rattle.pages.specs.In.{inPage, sizeOf, countOf}
-use Rattle.calls.specs.Lent.{Lent, lent, Outcome, gives, rightLengths, rightlyLent}
+use Rattle.judge.specs.OrderLaws.{open-passed}
+use Rattle.pages.specs.In.{sizeOf, countOf}
+use Rattle.calls.specs.Lent.{Lent, gives, rightLengths, rightlyLent}
 use Rattle.calls.specs.Open.{rightToken, isReplied, slotPlan, passedPlan, judgedPlan, openPlan, applyOpen, openOut}
 use Rattle.calls.specs.declared.opening.Opening.{Opening}
 use Rattle.calls.specs.declared.opening.Opening.the-variants.{Say, Reply, Park}

@@ -1,12 +1,11 @@
 -- Sequences of calls: what a run of opens, closes, aborts and resets is, which command is parked in which slot by the history of calls
 -- alone (the ledger), and which whole commands the run amounts to. Nothing here reads a byte of a table but the ledger's start.
 use mathlib.Core.Path.{_≡_}
-use mathlib.Core.Bool.{Bool, true, false}
 use mathlib.Core.Option.{Option, none, some}
 use mathlib.Core.List.{List, [], _∷_, _++_}
 use Prim.Native.Nat.{ℕ, _+_, _<_}
 use lib.Dec.{eqb}
-use lib.ListN.{length, take}
+use lib.ListN.{take}
 use Rattle.choice.specs.Choice.{pick}
 use Rattle.wire.specs.Bytes.{patch}
 use Rattle.model.specs.declared.Answer.{Answer}
@@ -20,7 +19,7 @@ use Rattle.calls.specs.Lent.{lent, gives}
 use Rattle.calls.specs.Open.{openOut}
 use Rattle.calls.specs.Close.{closeOut}
 use Rattle.calls.specs.Answers.{isFinal, countIn}
-use Rattle.calls.specs.Whole.{Asked, asked, Whole, whole}
+use Rattle.calls.specs.Whole.{Asked, whole}
 use Rattle.calls.specs.WholeLaws.{heldBy}
 
 -- ---- the calls

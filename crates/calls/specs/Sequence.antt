@@ -10,15 +10,13 @@ use native.Mathlib.Omega.{arith}
 use lib.Dec.{eqb}
 use lib.ListN.{length, length-append}
 use borrow.Author.Tests.{eqb-true, eqb-false}
-use Rattle.units.specs.declared.UnitState.{UnitState}
-use Rattle.units.specs.declared.UnitState.the-variants.{Used}
 use Rattle.units.specs.Unit.{unitAt, unitState, unitStateOf}
 use Rattle.slots.specs.Slot.{slotAt}
 use Rattle.judge.specs.Judgement.{isUnsound}
-use Rattle.calls.specs.Whole.{Asked, Whole, whole}
-use Rattle.calls.specs.WholeCases.{whole-cases, whole-length, whole-others, whole-state}
-use Rattle.calls.specs.Run.{Tables, Call, opens, closes, aborts, resets, Event, event, Meets, Ran, Ledger, after, ledgerOf, View, vacant, held, damaged, view, toView, ofView, starts, Agrees, Done, doneIn, dones, Singly, finalIn, finals, KeepsReply}
-use Rattle.calls.specs.StepLaws.{Fits, Stepped, step}
+use Rattle.calls.specs.Whole.{Asked, whole}
+use Rattle.calls.specs.WholeCases.{whole-length, whole-others, whole-state}
+use Rattle.calls.specs.Run.{Tables, Event, Ran, Ledger, after, ledgerOf, View, vacant, held, damaged, view, toView, ofView, starts, Agrees, Done, doneIn, dones, Singly, finals, KeepsReply}
+use Rattle.calls.specs.StepLaws.{Fits, step}
 
 -- ---- the premise: tables of their sizes, every unit record sound (used or unused), every slot sound (open or free)
 

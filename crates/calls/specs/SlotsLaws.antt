@@ -1,16 +1,12 @@
 -- Laws of abort and reset: case by case, and what a good one leaves.
-use mathlib.Core.Path.{_≡_, refl, sym, ap, _∙_}
-use mathlib.Core.Bool.{Bool, true, false}
+use mathlib.Core.Path.{_≡_, ap, _∙_}
+use mathlib.Core.Bool.{true, false}
 use mathlib.Core.List.{List}
 use Prim.Native.Nat.{ℕ, _≤_, _<_}
 use native.Mathlib.Omega.{arith}
-use lib.Dec.{eqb, leb}
 use lib.ListN.{length}
 use borrow.Author.Tests.{eq-eqb, ne-eqb, le-leb, lt-leb}
-use Rattle.choice.specs.Choice.{both, pick}
-use Rattle.seal.specs.Seal.{blankRecord}
 use Rattle.model.specs.declared.Answer.the-variants.{Good, H1, H3}
-use Rattle.slots.specs.declared.SlotState.{SlotState}
 use Rattle.slots.specs.declared.SlotState.the-variants.{Free}
 use Rattle.slots.specs.Slot.{slotStateOf, slotAt, isOpen, freed, allFreed}
 use Rattle.slots.specs.SlotLaws.{record-free}

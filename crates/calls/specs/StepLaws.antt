@@ -7,8 +7,7 @@ use mathlib.Core.List.{List, [], _∷_}
 use Prim.Native.Nat.{ℕ, _≤_, _<_}
 use native.Mathlib.Omega.{arith}
 use lib.Dec.{eqb, leb}
-use lib.ListN.{length, take, drop}
-use lib.Seq.{take-at}
+use lib.ListN.{length, take}
 use borrow.Author.Tests.{eqb-true, eqb-false, eq-eqb, leb-true}
 use Rattle.choice.specs.Choice.{both, pick}
 use Rattle.choice.specs.ChoiceLaws.{both-true}
@@ -26,24 +25,24 @@ use Rattle.slots.specs.RoundLaws.{open-unit, open-command, open-token, parked-o
 use Rattle.slots.specs.TableLaws.{freed-length, freed-here, freed-other, all-freed-length, all-freed}
 use Rattle.slots.specs.declared.Found.{Found}
 use Rattle.slots.specs.declared.Found.the-variants.{At, Nothing}
-use Rattle.slots.specs.declared.SlotState.{SlotState}
-use Rattle.slots.specs.declared.SlotState.the-variants.{Free, Open, Unsound}
+use Rattle.slots.specs.declared.SlotState.the-variants.{Open}
 use Rattle.judge.specs.Command.{codeOf}
 use Rattle.judge.specs.Judgement.{openReason}
-use Rattle.judge.specs.OrderLaws.{Passed, open-passed}
+use Rattle.judge.specs.OrderLaws.{open-passed}
 use Rattle.calls.specs.Outcome.{out, one-answer}
 use Rattle.calls.specs.Slots.{abortOut, resetOut}
 use Rattle.calls.specs.Lent.{Lent, lent, Outcome, gives, rightlyLent, one-outcome}
 use Rattle.calls.specs.Open.{rightToken, slotPlan, passedPlan, judgedPlan, openPlan, applyOpen, openOut}
-use Rattle.calls.specs.OpenLaws.{lengths-are, token-is, open-h1, open-h2}
+use Rattle.calls.specs.OpenLaws.{token-is, open-h1, open-h2}
 use Rattle.calls.specs.Close.{heldPlan, closePlan, closeOut}
 use Rattle.calls.specs.CloseLaws.{is-open-state, close-h1}
+use Rattle.calls.specs.Leaves.{front-written}
 use Rattle.calls.specs.Answers.{isFinal, countIn}
 use Rattle.calls.specs.Cases.{Opens, Closes}
-use Rattle.calls.specs.Whole.{Asked, asked, Whole, whole}
+use Rattle.calls.specs.Whole.{Asked, asked, whole}
 use Rattle.calls.specs.WholeLaws.{openedWhole, closedWhole, parks, heldBy, open-whole, close-whole}
 use Rattle.calls.specs.WholeCases.{whole-final, whole-written, whole-length}
-use Rattle.calls.specs.Run.{Tables, tables, Call, opens, closes, aborts, resets, Event, event, Meets, Ledger, put, entered, after, View, vacant, held, damaged, viewBy, view, toView, Agrees, done, doneBy, doneIn, Singly, KeepsReply, finalIn}
+use Rattle.calls.specs.Run.{Tables, tables, Call, opens, closes, aborts, resets, Event, event, Meets, Ledger, put, entered, after, vacant, held, view, toView, Agrees, done, doneIn, Singly, KeepsReply, finalIn}
 
 -- ---- an open goes one of five ways, and a close one of three
 
@@ -173,15 +172,10 @@ final-entered ledger k H3 e = refl
 final-entered ledger k H4 e = refl
 final-entered ledger k H5 e = refl
 
--- as many bytes as were written stand at the reply's front
-pub written-front : (reply ws : List ℕ) (n : ℕ) → length ws ≡ n → take n (patch reply 0 ws) ≡ ws
-unfolding patch
-written-front reply ws n e = take-at ws (drop (length ws) reply) n e
-
 front-kept : (us : List ℕ) (k : Asked) (d : List ℕ) (clock : ℕ) (reply : List ℕ)
     → patch reply 0 (whole us k d clock .written)
     ≡ patch reply 0 (take (countIn (whole us k d clock .answer)) (patch reply 0 (whole us k d clock .written)))
-front-kept us k d clock reply = ap (patch reply 0) (sym (written-front reply (whole us k d clock .written) _ (whole-written us k d clock)))
+front-kept us k d clock reply = ap (patch reply 0) (sym (front-written reply (whole us k d clock .written) _ (whole-written us k d clock)))
 
 none-written : (reply : List ℕ) (n : ℕ) → n ≡ 0 → reply ≡ patch reply 0 (take n reply)
 unfolding patch
@@ -190,7 +184,7 @@ none-written reply n e = rw e
 -- the whole command, and what its step shows of it
 whole-singly : (us : List ℕ) (k : Asked) (d : List ℕ) (clock : ℕ) (reply : List ℕ)
     → Singly us (done k d clock (whole us k d clock .answer) (take (countIn (whole us k d clock .answer)) (patch reply 0 (whole us k d clock .written))) ∷ []) (whole us k d clock .units)
-whole-singly us k d clock reply = (refl, sym (written-front reply (whole us k d clock .written) _ (whole-written us k d clock)), refl)
+whole-singly us k d clock reply = (refl, sym (front-written reply (whole us k d clock .written) _ (whole-written us k d clock)), refl)
 
 module _ (t : Tables) (ledger : Ledger) (fit : Fits t ledger) where
   -- ---- an open

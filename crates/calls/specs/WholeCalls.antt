@@ -1,31 +1,29 @@
 -- A whole command is what an open and, where it parks, its close at once and with the same clock give on a table with a free slot; the
 -- slot table is then as it was.
-use mathlib.Core.Path.{_≡_, refl, sym, ap, ap₂, _∙_, subst}
-use mathlib.Core.Bool.{Bool, true, false}
-use mathlib.Core.List.{List, [], _∷_, _++_, append-assoc}
+use mathlib.Core.Path.{_≡_, sym, ap, ap₂, _∙_}
+use mathlib.Core.Bool.{true, false}
+use mathlib.Core.List.{List, _++_}
 use Prim.Native.Nat.{ℕ, _+_, _*_, _≤_, _<_}
 use native.Mathlib.Omega.{arith}
-use lib.Dec.{eqb, leb}
+use lib.Dec.{eqb}
 use lib.ListN.{length, take, drop, take-append-drop, length-drop}
 use lib.Seq.{take-at, drop-at, length-take-le}
 use borrow.Author.Tests.{eqb-true, eq-eqb, le-leb}
-use Rattle.choice.specs.Choice.{both}
 use Rattle.choice.specs.ChoiceLaws.{both-true}
 use Rattle.wire.specs.Bytes.{part, same, patch}
 use Rattle.wire.specs.SameLaws.{same-true}
 use Rattle.seal.specs.Seal.{blankRecord}
 use Rattle.seal.specs.BlankLaws.{record-length}
-use Rattle.model.specs.Codes.{dataOut, legalLen}
+use Rattle.model.specs.Codes.{dataOut}
 use Rattle.model.specs.CodeLaws.{legal-small}
 use Rattle.model.specs.declared.SlotNo.{SlotNo}
 use Rattle.model.specs.declared.Answer.the-variants.{Parked}
-use Rattle.slots.specs.Slot.{slotAt, slotStateOf, isFree, isOpen, openRecord, lowestFree, parked, freed}
+use Rattle.slots.specs.Slot.{slotAt, slotStateOf, isFree, openRecord, lowestFree, parked, freed}
 use Rattle.slots.specs.SlotLaws.{free-blank}
 use Rattle.slots.specs.SearchLaws.{lowest}
 use Rattle.slots.specs.RoundLaws.{open-length, parked-open, parked-length, parked-here}
 use Rattle.slots.specs.TableLaws.{slot-length}
 use Rattle.slots.specs.declared.Found.the-variants.{At}
-use Rattle.slots.specs.declared.SlotState.the-variants.{Open}
 use Rattle.judge.specs.Command.{codeOf}
 use Rattle.judge.specs.Judgement.{openReason}
 use Rattle.judge.specs.OrderLaws.{Passed, open-passed}
@@ -34,7 +32,7 @@ use Rattle.calls.specs.Open.{rightToken, slotPlan, applyOpen, openOut}
 use Rattle.calls.specs.OpenLaws.{lengths-are, token-is}
 use Rattle.calls.specs.Close.{closeOut}
 use Rattle.calls.specs.Cases.{Opens, Closes}
-use Rattle.calls.specs.Whole.{Asked, Whole, whole}
+use Rattle.calls.specs.Whole.{Asked, whole}
 use Rattle.calls.specs.WholeLaws.{openedWhole, closedWhole, parks, heldBy, open-whole, close-whole}
 use Rattle.calls.specs.StepLaws.{parked-out, held-parked}
 

@@ -1,27 +1,23 @@
 -- The cases of a whole command, and what every one of them has: a final answer, as many written bytes as its count says, a unit table of
 -- the same length, every other unit's record as it was, and its own sound again.
 use mathlib.Core.Path.{_≡_, refl, sym, ap, _∙_}
-use mathlib.Core.Bool.{Bool, true, false, not}
+use mathlib.Core.Bool.{true, false}
 use mathlib.Core.List.{List, []}
-use Prim.Native.Nat.{ℕ, _*_, _+_, _≤_, _<_}
+use Prim.Native.Nat.{ℕ, _*_, _<_}
 use native.Mathlib.Omega.{arith}
 use lib.Dec.{eqb}
-use lib.ListN.{length, take, drop, length-drop}
+use lib.ListN.{length, drop, length-drop}
 use lib.Seq.{length-take-le}
 use borrow.Author.Tests.{eqb-true, eqb-false}
-use Rattle.choice.specs.Choice.{pick}
-use Rattle.wire.specs.Bytes.{number, part, patch}
+use Rattle.wire.specs.Bytes.{number}
 use Rattle.wire.specs.PatchLaws.{record-here, record-other, record-length}
 use Rattle.model.specs.Refusal.{refusal}
 use Rattle.model.specs.Totals.{totalOf}
-use Rattle.model.specs.declared.Answer.{Answer}
 use Rattle.model.specs.declared.Answer.the-variants.{Good, Run}
-use Rattle.units.specs.declared.UnitState.{UnitState}
 use Rattle.units.specs.declared.UnitState.the-variants.{Used}
 use Rattle.units.specs.Unit.{unitAt, keySetOf, unitState, unitStateOf}
 use Rattle.judge.specs.Command.{codeOf, pageOf}
-use Rattle.judge.specs.Judgement.{openReason}
-use Rattle.judge.specs.OrderLaws.{Passed, open-passed}
+use Rattle.judge.specs.OrderLaws.{open-passed}
 use Rattle.pages.specs.In.{inPage, sizeOf, countOf}
 use Rattle.pages.specs.InLaws.{page-size}
 use Rattle.pages.specs.Out.{wrongList}
@@ -29,14 +25,11 @@ use Rattle.pages.specs.Effects.{newRecord}
 use Rattle.pages.specs.EffectLaws.{new-length, new-used}
 use Rattle.calls.specs.Open.{isReplied}
 use Rattle.calls.specs.OpenLaws.{count-least}
+use Rattle.calls.specs.Cases.{pick-cases}
 use Rattle.calls.specs.Close.{closeReason}
 use Rattle.calls.specs.CloseLaws.{close-none, list-passed}
 use Rattle.calls.specs.Answers.{isFinal, countIn}
 use Rattle.calls.specs.Whole.{Asked, Whole, whole-of, replied, obeyed, passedWhole, whole}
-
-pick-cases : {A : Type 0} (P : A → Type 0) (b : Bool) (x y : A) → (b ≡ true → P x) → (b ≡ false → P y) → P (pick b x y)
-pick-cases P true x y p q = p refl
-pick-cases P false x y p q = q refl
 
 module _ (units : List ℕ) (k : Asked) (d : List ℕ) (clock : ℕ) where
   -- the reason that a whole command is refused for

@@ -2,10 +2,10 @@
 use mathlib.Core.Path.{_≡_, refl, sym, ap, _∙_}
 use mathlib.Core.Bool.{Bool, true, false, not}
 use mathlib.Core.List.{List, []}
-use Prim.Native.Nat.{ℕ, _≤_, _<_}
+use Prim.Native.Nat.{ℕ}
 use native.Mathlib.Omega.{arith}
 use lib.Dec.{eqb, leb}
-use lib.ListN.{length, getD, take, drop}
+use lib.ListN.{length, getD, drop}
 use lib.Seq.{getD-take, getD-drop}
 use borrow.Author.Tests.{eqb-true, eqb-false}
 use Rattle.choice.specs.Choice.{both, pick}
@@ -14,28 +14,22 @@ use Rattle.wire.specs.Bytes.{part, number, patch}
 use Rattle.model.specs.Codes.{dataOut}
 use Rattle.model.specs.CodeLaws.{legal-some}
 use Rattle.model.specs.Refusal.{refusal}
-use Rattle.model.specs.declared.SlotNo.{SlotNo}
-use Rattle.model.specs.declared.Answer.{Answer}
-use Rattle.model.specs.declared.Answer.the-variants.{Good, Parked, Run, Full, H1, H2, H3}
-use Rattle.slots.specs.Slot.{slotAt, slotStateOf, isOpen, slotUnit, slotCommand, slotToken, commandLength, lowestFree, parked, freed}
-use Rattle.slots.specs.SlotLaws.{Sound, open-sound}
+use Rattle.model.specs.declared.Answer.the-variants.{Good, Run}
+use Rattle.slots.specs.Slot.{slotAt, slotStateOf, isOpen, slotUnit, slotCommand, slotToken, commandLength, freed}
+use Rattle.slots.specs.SlotLaws.{open-sound}
 use Rattle.slots.specs.declared.SlotState.the-variants.{Open}
-use Rattle.slots.specs.declared.Found.the-variants.{At}
 use Rattle.judge.specs.Command.{codeOf, pageOf}
-use Rattle.judge.specs.Judgement.{test, first, openReason}
+use Rattle.judge.specs.Judgement.{first, openReason}
 use Rattle.judge.specs.OrderLaws.{orElse}
 use Rattle.pages.specs.In.{sizeOf, countOf}
-use Rattle.pages.specs.Out.{wrongList}
 use Rattle.calls.specs.Lent.{Lent, lent, Outcome, gives, rightlyLent}
 use Rattle.calls.specs.Open.{rightToken, isReplied, passedPlan, judgedPlan, openPlan, applyOpen, openOut}
 use Rattle.calls.specs.Close.{listTests, closeReason, endPlan, rejudgedPlan, heldPlan, closePlan, applyClose, closeOut}
 use Rattle.calls.specs.CloseLaws.{close-order, close-early, is-open-state}
-use Rattle.calls.specs.Cases.{Opens, open-cases, Closes, close-cases, slotReason}
+use Rattle.calls.specs.Cases.{Closes, slotReason}
 use Rattle.calls.specs.Whole.{Asked, asked, Whole, whole-of, replied, obeyed, passedWhole, whole}
-use Rattle.calls.specs.declared.opening.Opening.{Opening}
-use Rattle.calls.specs.declared.opening.Opening.the-variants.{Say, Reply, Park}
-use Rattle.calls.specs.declared.closing.Closing.{Closing}
-use Rattle.calls.specs.declared.closing.Closing.the-variants.{Keep, End, Obey}
+use Rattle.calls.specs.declared.opening.Opening.the-variants.{Say, Reply}
+use Rattle.calls.specs.declared.closing.Closing.the-variants.{End, Obey}
 
 -- nothing written at the front
 patch-none : (l : List ℕ) → patch l 0 [] ≡ l

@@ -1,37 +1,32 @@
 -- A guarded command that an open or a close does not refuse has passed every check of its capability.
-use mathlib.Core.Path.{_≡_, refl, sym, ap, _∙_}
+use mathlib.Core.Path.{_≡_, refl, sym, _∙_}
 use mathlib.Core.Logic.{_⊎_, inl, inr}
 use mathlib.Core.Bool.{Bool, true, false, not}
-use mathlib.Core.List.{List, [], _∷_, _++_}
+use mathlib.Core.List.{List, [], _∷_}
 use Prim.Native.Nat.{ℕ, _+_, _≤_, min}
 use native.Mathlib.Omega.{arith}
 use lib.Dec.{eqb, ltb}
 use lib.ListN.{length}
-use borrow.Author.Tests.{eqb-true, ltb-false}
-use Rattle.choice.specs.Choice.{pick, both, either}
+use borrow.Author.Tests.{eqb-true, ltb-false, not-false}
+use Rattle.choice.specs.Choice.{pick, both}
 use Rattle.choice.specs.ChoiceLaws.{either-false}
 use Rattle.words.specs.Words.{bits}
-use Rattle.wire.specs.Bytes.{same, part}
+use Rattle.wire.specs.Bytes.{same}
 use Rattle.wire.specs.SameLaws.{same-true}
-use Rattle.hmac.specs.Hmac.{hmac, bySha1}
 use Rattle.model.specs.Codes.{cdbLen, legalLen}
-use Rattle.units.specs.Unit.{unitAt, method, policyTag, identifier}
+use Rattle.units.specs.Unit.{unitAt, policyTag, identifier}
 use Rattle.judge.specs.Command.{codeOf, needFor, isBare, isChange, isOpenRow, isMaster, bitsNeeded}
 use Rattle.judge.specs.Descriptor.{format, keyVersion, capMethod, algorithm, expiration, permissions, capTag, descriptorType, descriptorLength, descriptorId}
 use Rattle.judge.specs.Faults.{wrongFormat, wrongMethod, wrongAlgorithm, expired, lacksBits, wrongTag, wrongDescriptor}
 use Rattle.judge.specs.Keys.{keyFound, keyUsed, capabilityKey, validationTag, checkValue}
-use Rattle.judge.specs.Judgement.{Test, test, first, formTests, factTests, keyTests, rulesFor, skipsGuard, capabilityTests, guardTests, openReason}
-use Rattle.judge.specs.OrderLaws.{orElse, earlyReason, lateReason, first-none, or-else-none, reason-none, capability-order, capability-named, open-passed, wrapped-length}
+use Rattle.judge.specs.Judgement.{test, first, formTests, factTests, keyTests, rulesFor, skipsGuard, capabilityTests, guardTests, openReason}
+use Rattle.judge.specs.OrderLaws.{earlyReason, lateReason, first-none, or-else-none, reason-none, capability-order, capability-named, open-passed}
 use Rattle.judge.specs.Checked.{behindCdb, Checked}
-
-off : (b : Bool) → not b ≡ false → b ≡ true
-off true h = refl
-off false h = sym h
 
 -- a test of two parts that does not apply: the first fails, or the second does
 one-off : (a b : Bool) → both (not a) (not b) ≡ false → (a ≡ true) ⊎ (b ≡ true)
 one-off true b e = inl refl
-one-off false b e = inr (off b e)
+one-off false b e = inr (not-false b e)
 
 ruled : (rules b : Bool) → rules ≡ true → both rules b ≡ false → b ≡ false
 ruled true b t e = e
@@ -41,15 +36,15 @@ ruled false b t e = cc
 
 format-passed : (f : ℕ) → wrongFormat f ≡ false → f ≡ 1
 unfolding wrongFormat
-format-passed f e = eqb-true f 1 (off (eqb f 1) e)
+format-passed f e = eqb-true f 1 (not-false (eqb f 1) e)
 
 method-passed : (m : ℕ) → wrongMethod true m ≡ false → m ≡ 1
 unfolding wrongMethod
-method-passed m e = eqb-true m 1 (off (eqb m 1) e)
+method-passed m e = eqb-true m 1 (not-false (eqb m 1) e)
 
 algorithm-passed : (a : ℕ) → wrongAlgorithm true a ≡ false → a ≡ 1
 unfolding wrongAlgorithm
-algorithm-passed a e = eqb-true a 1 (off (eqb a 1) e)
+algorithm-passed a e = eqb-true a 1 (not-false (eqb a 1) e)
 
 time-passed : (e clock : ℕ) → expired e clock ≡ false → (e ≡ 0) ⊎ (clock ≤ e)
 unfolding expired
@@ -61,7 +56,7 @@ time-passed e clock h = go (eqb e 0) refl h
 
 bits-passed : (needed p : ℕ) → lacksBits needed p ≡ false → bits 8 min needed p ≡ needed
 unfolding lacksBits
-bits-passed needed p e = eqb-true (bits 8 min needed p) needed (off _ e)
+bits-passed needed p e = eqb-true (bits 8 min needed p) needed (not-false _ e)
 
 tag-passed : (t unitTag : ℕ) → wrongTag t unitTag ≡ false → (t ≡ 0) ⊎ (t ≡ unitTag)
 unfolding wrongTag
@@ -77,7 +72,7 @@ unfolding wrongDescriptor
 descriptor-passed type len id unitId e =
     let p = either-false (not (eqb type 1)) _ e in
     let q = either-false (not (eqb len 16)) (not (same id unitId)) (p .1) in
-    (eqb-true type 1 (off _ (p .0)), eqb-true len 16 (off _ (q .0)), same-true id unitId (off _ (q .1)))
+    (eqb-true type 1 (not-false _ (p .0)), eqb-true len 16 (not-false _ (q .0)), same-true id unitId (not-false _ (q .1)))
 
 -- ---- a guarded command: where CAPKEY rules, and the row is not open
 
@@ -170,7 +165,7 @@ module _ (units : List ℕ) (u : ℕ) (c token : List ℕ) (clock : ℕ) (none :
       let t15 = test 15 (not (same (validationTag (keyUsed units u m (isChange c) v) a c token) (checkValue a c))) in
       let p = first-none (test 14 (not (keyFound units u m (isChange c) v))) (t15 ∷ []) refl late in
       let q = first-none t15 [] refl (p .1) in
-      (off _ (p .0), same-true _ _ (off _ (q .0)))
+      (not-false _ (p .0), same-true _ _ (not-false _ (q .0)))
 
   -- a key was found
   pub guarded-key : keyFound units u (isMaster (needFor c)) (isChange c) (keyVersion (behindCdb c) c) ≡ true

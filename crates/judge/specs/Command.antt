@@ -1,7 +1,7 @@
 -- A command as it is judged (document 01, "Commands and what they need"): its code, its page, whether it is bare, what it needs.
 use mathlib.Core.Bool.{Bool, true, false}
 use mathlib.Core.List.{List}
-use Prim.Native.Nat.{ℕ, _/_, _%_}
+use Prim.Native.Nat.{ℕ}
 use lib.Dec.{eqb}
 use lib.ListN.{length, getD}
 use Rattle.choice.specs.Choice.{both}

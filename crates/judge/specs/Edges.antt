@@ -1,6 +1,6 @@
 -- Examples on the edges (document 01) of the capability's faults: a) to g), as one table.
 use mathlib.Core.Path.{_≡_, refl}
-use mathlib.Core.Bool.{Bool, true, false, not}
+use mathlib.Core.Bool.{true, false}
 use mathlib.Core.List.{List, [], _∷_}
 use Prim.Native.Nat.{_^_, _-_}
 use Rattle.words.specs.Words.{bits}

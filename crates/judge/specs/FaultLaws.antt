@@ -1,5 +1,5 @@
 -- Laws of the faults: the machine's AND of two bytes is that of their bits.
-use mathlib.Core.Path.{_≡_, refl, sym, _∙_}
+use mathlib.Core.Path.{_≡_, refl}
 use Prim.Native.Nat.{ℕ, _^_, _<_, min}
 use lib.Bits.{bitAnd, and-step}
 use Rattle.words.specs.Words.{bits}

@@ -1,5 +1,5 @@
 -- The faults of a capability (document 01, "Order of judgement", reasons 7 to 13), each over numbers and bytes.
-use mathlib.Core.Bool.{Bool, true, false, not}
+use mathlib.Core.Bool.{Bool, not}
 use mathlib.Core.List.{List}
 use Prim.Native.Nat.{ℕ, min}
 use lib.Dec.{eqb, ltb}

@@ -1,19 +1,17 @@
 -- Laws of the judgement.
 use mathlib.Core.Path.{_≡_, refl}
-use mathlib.Core.Bool.{Bool, true, false, not}
+use mathlib.Core.Bool.{true, false}
 use mathlib.Core.List.{List}
 use Prim.Native.Nat.{ℕ, _≤_}
-use lib.Dec.{eqb, ltb}
+use lib.Dec.{eqb}
 use lib.ListN.{length}
-use borrow.Author.Tests.{le-ltb}
-use Rattle.choice.specs.Choice.{pick, either}
+use borrow.Author.Tests.{le-ltb, eq-eqb}
 use Rattle.choice.specs.ChoiceLaws.{either-right}
 use Rattle.model.specs.Rows.{listed}
-use Rattle.judge.specs.Command.{codeOf}
-use Rattle.units.specs.declared.UnitState.{UnitState}
+use Rattle.judge.specs.Command.{codeOf, needFor, isMaster}
 use Rattle.units.specs.declared.UnitState.the-variants.{Used}
-use Rattle.units.specs.Unit.{unitState}
-use Rattle.judge.specs.Judgement.{first, unitTests, commandTests, openTests, openReason}
+use Rattle.units.specs.Unit.{unitState, method}
+use Rattle.judge.specs.Judgement.{first, unitTests, commandTests, openTests, openReason, rulesFor}
 
 -- a code that no row has is refused with reason 2, whatever the command's length
 pub unknown-refused : (c : List ℕ) → listed (codeOf c) ≡ false → first (commandTests c) ≡ 2
@@ -26,3 +24,12 @@ pub unknown-open : (units : List ℕ) (u : ℕ) (c token : List ℕ) (clock : �
 unfolding openReason openTests unitTests commandTests
 unknown-open units u c token clock h s k =
     rw (le-ltb 7 u h, s, k, either-right (eqb (length c) 0) true refl)
+
+-- CAPKEY rules on CAPKEY units, and for master rows always
+pub capkey-rules : (rec c : List ℕ) → method rec ≡ 1 → rulesFor rec c ≡ true
+unfolding rulesFor
+capkey-rules rec c e = rw (eq-eqb (method rec) 1 e)
+
+pub master-rules : (rec c : List ℕ) → isMaster (needFor c) ≡ true → rulesFor rec c ≡ true
+unfolding rulesFor
+master-rules rec c e = either-right (eqb (method rec) 1) (isMaster (needFor c)) e

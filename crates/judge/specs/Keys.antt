@@ -4,7 +4,7 @@ use mathlib.Core.List.{List}
 use Prim.Native.Nat.{ℕ, _+_}
 use lib.Dec.{eqb}
 use Rattle.choice.specs.Choice.{pick, both}
-use Rattle.wire.specs.Bytes.{same, part}
+use Rattle.wire.specs.Bytes.{part}
 use Rattle.hmac.specs.Hmac.{hmac, bySha1}
 use Rattle.units.specs.Unit.{keySetOf, validKey, workingKeyOf, authKey, nextAuthKey, step}
 

@@ -6,7 +6,7 @@ use Prim.Native.Nat.{ℕ, _+_, _/_, _%_, _^_, _≤_, _<_}
 use native.Mathlib.Omega.{arith}
 use lib.Dec.{eqb, ltb}
 use lib.ListN.{length, getD}
-use borrow.Author.Tests.{ltb-false, eqb-true, eq-eqb, ne-eqb}
+use borrow.Author.Tests.{ltb-false, eqb-true, eq-eqb, ne-eqb, not-false, not-true}
 use Rattle.choice.specs.Choice.{pick, both, either}
 use Rattle.choice.specs.ChoiceLaws.{either-false, both-true, pick-holds}
 use Rattle.model.specs.Rows.{listed, byPage}
@@ -27,12 +27,8 @@ abbrev pub named : List Test → Bool
 named [] = true
 named (t ∷ ts) = both (not (eqb (t .reason) 0)) (named ts)
 
-nonzero : (b : Bool) → not b ≡ true → b ≡ false
-nonzero true e = sym e
-nonzero false e = refl
-
 else-step : (b : Bool) (r x y : ℕ) → not (eqb r 0) ≡ true → pick b r (orElse x y) ≡ orElse (pick b r x) y
-else-step true r x y h = rw (nonzero (eqb r 0) h)
+else-step true r x y h = rw (not-true (eqb r 0) h)
 else-step false r x y h = refl
 
 pub first-append : (xs ys : List Test) → named xs ≡ true → first (xs ++ ys) ≡ orElse (first xs) (first ys)
@@ -66,7 +62,7 @@ first-none t ts h e = by-cases (t .applies) refl e
     by-cases : (b : Bool) → t .applies ≡ b → pick b (t .reason) (first ts) ≡ 0 → (t .applies ≡ false) × (first ts ≡ 0)
     by-cases false q k = (q, k)
     by-cases true q k =
-        let n = nonzero (eqb (t .reason) 0) (both-true (not (eqb (t .reason) 0)) (named ts) h .0) in
+        let n = not-true (eqb (t .reason) 0) (both-true (not (eqb (t .reason) 0)) (named ts) h .0) in
         let z : true ≡ false = sym (eq-eqb (t .reason) 0 k) ∙ n in
         (q ∙ z, cc)
 
@@ -96,11 +92,7 @@ command-passed c e =
     let bit = both (byPage (codeOf c)) (eqb (getD c 4 0 / 2 ^ 7 % 2) 1) in
     let p = first-none (test 2 unknown) (test 3 short ∷ test 4 page ∷ test 4 bit ∷ []) refl e in
     let q = first-none (test 3 short) (test 4 page ∷ test 4 bit ∷ []) refl (p .1) in
-    (off (listed (codeOf c)) (either-false (eqb (length c) 0) (not (listed (codeOf c))) (p .0) .1), off (legalLen (codeOf c) (length c)) (q .0))
-  where
-    off : (b : Bool) → not b ≡ false → b ≡ true
-    off true h = refl
-    off false h = sym h
+    (not-false (listed (codeOf c)) (either-false (eqb (length c) 0) (not (listed (codeOf c))) (p .0) .1), not-false (legalLen (codeOf c) (length c)) (q .0))
 
 -- ---- the groups one after another
 
