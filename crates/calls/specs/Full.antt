@@ -10,7 +10,7 @@ use borrow.Author.Tests.{eq-eqb}
 use Rattle.model.specs.Codes.{dataOut}
 use Rattle.model.specs.declared.Answer.{Answer}
 use Rattle.model.specs.declared.Answer.the-variants.{Good, Parked, Run, Check, Full, H1, H2, H3, H4, H5}
-use Rattle.slots.specs.Slot.{slotAt, slotStateOf, isFree, lowestFree}
+use Rattle.slots.specs.Slot.{slotAt, slotStateOf, isFree, lowestFree, isOpen, freed, allFreed}
 use Rattle.slots.specs.SearchLaws.{lowest, none-free}
 use Rattle.slots.specs.declared.Found.{Found}
 use Rattle.slots.specs.declared.Found.the-variants.{At, Nothing}
@@ -18,6 +18,11 @@ use Rattle.slots.specs.declared.SlotState.{SlotState}
 use Rattle.slots.specs.declared.SlotState.the-variants.{Free, Open, Unsound}
 use Rattle.judge.specs.Command.{codeOf}
 use Rattle.judge.specs.Judgement.{openReason}
+use lib.Dec.{eqb, leb}
+use Rattle.choice.specs.Choice.{both, pick}
+use Rattle.calls.specs.Outcome.{out, one-answer}
+use Rattle.calls.specs.Slots.{abortOut, resetOut}
+use Rattle.calls.specs.WholeLaws.{heldBy}
 use Rattle.calls.specs.Lent.{Lent, lent, Outcome, gives, rightLengths, rightlyLent, one-outcome}
 use Rattle.calls.specs.Open.{rightToken, slotPlan, applyOpen, openOut}
 use Rattle.calls.specs.OpenLaws.{lengths-are}
@@ -25,8 +30,8 @@ use Rattle.calls.specs.Cases.{Opens}
 use Rattle.calls.specs.Answers.{isFinal, told-apart}
 use Rattle.calls.specs.Whole.{Asked, whole}
 use Rattle.calls.specs.WholeCases.{whole-final}
-use Rattle.calls.specs.Run.{Tables, opens, Event, Meets, Ran, Ledger, ledgerOf, held, viewBy, view, toView, starts}
-use Rattle.calls.specs.StepLaws.{Fits, open-by, parked-out}
+use Rattle.calls.specs.Run.{Tables, opens, Event, Meets, Ran, Ledger, ledgerOf, held, viewBy, view, toView, starts, Call, closes, aborts, resets}
+use Rattle.calls.specs.StepLaws.{Fits, open-by, parked-out, close-by}
 use Rattle.calls.specs.Sequence.{SoundTables, sequence}
 
 -- the command passes: a reply of 512 bytes, a token of 16 to 64, no reason of 1 to 17, and it carries data out
@@ -115,6 +120,50 @@ module _ (t : Tables) (ledger : Ledger) (fit : Fits t ledger) (k : Asked) (clock
       sym (ap (λ (f : Found). applyOpen l (k .unit) (k .command) (k .token) (slotPlan f)) (none-found taken (lowestFree (t .slots)) refl))
       ∙ parked-out l k clock o (p .data-out) in
       one-outcome a Full _ l _ meets full .0
+
+-- ---- no other call gives it
+
+close-not-full : (t : Tables) (s : ℕ) (d : List ℕ) (clock : ℕ) (reply : List ℕ) (a : Answer) (r : List ℕ) (n : Tables)
+    → Meets t (closes s d clock reply) a r n → a ≡ Full → ⊥
+close-not-full t s d clock reply a r n meets e =
+    close-by (lent (t .units) (t .slots) reply) s d clock (λ (o : Outcome). gives a (lent (n .units) (n .slots) r) ≡ o → ⊥)
+    (λ h q. other H1 q refl) (λ q. other H3 q refl)
+    (λ o q. let w = whole (t .units) (heldBy (slotAt s (t .slots))) d clock .answer in
+    other w q (final-not-full w (whole-final (t .units) (heldBy (slotAt s (t .slots))) d clock))) meets
+  where
+    other : {m : Lent} (b : Answer) → gives a (lent (n .units) (n .slots) r) ≡ gives b m → isFull b ≡ false → ⊥
+    other {m} b q f = told-apart isFull a b (one-outcome a b _ m (gives b m) q refl .0) (ap isFull e) f
+
+-- of two outcomes that are no A4, neither is
+pick-not-full : (b : Bool) (a x y : Answer) (s l m : List ℕ) → out a s ≡ pick b (out x l) (out y m) → isFull x ≡ false → isFull y ≡ false → isFull a ≡ false
+pick-not-full true a x y s l m e f g = ap isFull (one-answer a x s l (out x l) e refl .0) ∙ f
+pick-not-full false a x y s l m e f g = ap isFull (one-answer a y s m (out y m) e refl .0) ∙ g
+
+abort-not-full : (slots : List ℕ) (s : ℕ) (a : Answer) (n : List ℕ) → out a n ≡ abortOut slots s → isFull a ≡ false
+unfolding abortOut
+abort-not-full slots s a n e = by-length (eqb (length slots) 8192) e
+  where
+    by-length : (b : Bool)
+        → out a n ≡ pick b (pick (both (leb s 15) (isOpen (slotStateOf (slotAt s slots)))) (out (Good 0) (freed s slots)) (out H3 slots)) (out H1 slots)
+        → isFull a ≡ false
+    by-length true q = pick-not-full (both (leb s 15) (isOpen (slotStateOf (slotAt s slots)))) a (Good 0) H3 n (freed s slots) slots q refl refl
+    by-length false q = ap isFull (one-answer a H1 n slots (out H1 slots) q refl .0)
+
+reset-not-full : (slots : List ℕ) (a : Answer) (n : List ℕ) → out a n ≡ resetOut slots → isFull a ≡ false
+unfolding resetOut
+reset-not-full slots a n e = pick-not-full (eqb (length slots) 8192) a (Good 0) H1 n (allFreed slots) slots e refl refl
+
+abbrev pub isOpens : Call → Bool
+isOpens (opens k clock reply) = true
+isOpens (closes s d clock reply) = false
+isOpens (aborts s) = false
+isOpens resets = false
+
+pub full-opens : (t : Tables) (k : Call) (a : Answer) (r : List ℕ) (n : Tables) → Meets t k a r n → a ≡ Full → isOpens k ≡ true
+full-opens t (opens k clock reply) a r n meets e = refl
+full-opens t (closes s d clock reply) a r n meets e = absurd (close-not-full t s d clock reply a r n meets e)
+full-opens t (aborts s) a r n meets e = absurd (told-apart isFull a a refl (ap isFull e) (abort-not-full (t .slots) s a (n .slots) (meets .0)))
+full-opens t resets a r n meets e = absurd (told-apart isFull a a refl (ap isFull e) (reset-not-full (t .slots) a (n .slots) (meets .0)))
 
 -- ---- after any run from sound tables, by the ledger of the history
 
