@@ -131,3 +131,11 @@ sequence t es n sound ran =
           };
       replies-kept = r .keeps;
     }
+
+-- and so after every step of it: the tables that the first part of a run leaves are those of a run
+pub after-each-step : (t : Tables) (es fs : List Event) (n : Tables) → SoundTables t → Ran t (es ++ fs) n → (m : Tables) × Sequence t es m × Ran m fs n
+after-each-step t es fs n sound ran = let p = split es t ran in (p .0, sequence t es (p .0) sound (p .1), p .2)
+  where
+    split : (xs : List Event) (s : Tables) → Ran s (xs ++ fs) n → (m : Tables) × Ran s xs m × Ran m fs n
+    split [] s r = (s, refl, r)
+    split (x ∷ xs) s (k, meets, r) = let p = split xs k r in (p .0, (k, meets, p .1), p .2)
