@@ -1,5 +1,8 @@
 # The commands that people and the gate use. README.md says what each is for.
-.PHONY: test demo listings bench
+.PHONY: test demo embed hashes listings fuzz bench
+
+SEED = 2
+CALLS = 1000000
 
 test:
 	@tools/test
@@ -7,11 +10,21 @@ test:
 demo:
 	@tools/demo $(IN)
 
+embed:
+	@tools/embed
+
+hashes:
+	@tools/hashes $(IN)
+
 listings:
-	@cd second && cargo build --release --offline --quiet --target-dir target --bin listings
+	@cd second && cargo build --release --offline --quiet --target-dir target --bin listings --bin engine_listings
 	@second/target/release/listings crates/digests
+	@second/target/release/engine_listings crates/replay
+
+fuzz:
+	@tools/staticlib
+	@second/fuzz.sh $(CALLS) $(SEED)
 
 bench:
-	@mkdir -p target
-	@rt staticlib nectarnook >target/staticlib.log 2>&1 || { cat target/staticlib.log; exit 1; }
+	@tools/staticlib
 	@second/bench.sh

@@ -2,7 +2,7 @@
 
 use crate::hmac::hmac_sha1;
 use crate::sha1::{sha1, Digest, BLOCK};
-use crate::{hex, rng::Rng, vectors};
+use crate::{hex::field, rng::Rng, vectors};
 use std::ops::RangeInclusive;
 
 const SEED: u64 = 2104;
@@ -31,15 +31,6 @@ impl Request {
             Request::Hash(message) => sha1(message),
             Request::Mac { key, message } => hmac_sha1(key, message),
         }
-    }
-}
-
-/// Bytes as a listing writes them: `-` stands for none.
-fn field(bytes: &[u8]) -> String {
-    if bytes.is_empty() {
-        "-".to_string()
-    } else {
-        hex::encode(bytes)
     }
 }
 

@@ -23,6 +23,24 @@ impl Rng {
         (self.next_u64() % (most as u64 + 1)) as usize
     }
 
+    /// A number below `bound`.
+    pub fn below(&mut self, bound: u64) -> u64 {
+        self.next_u64() % bound
+    }
+
+    /// True once in so many times.
+    pub fn one_in(&mut self, times: u64) -> bool {
+        self.below(times) == 0
+    }
+
+    pub fn pick<T: Copy>(&mut self, from: &[T]) -> T {
+        from[self.below(from.len() as u64) as usize]
+    }
+
+    pub fn array<const N: usize>(&mut self) -> [u8; N] {
+        std::array::from_fn(|_| (self.next_u64() >> 56) as u8)
+    }
+
     /// `count` bytes.
     pub fn bytes(&mut self, count: usize) -> Vec<u8> {
         (0..count).map(|_| (self.next_u64() >> 56) as u8).collect()
@@ -39,5 +57,14 @@ mod tests {
         let mut rng = Rng::new(0);
         assert_eq!(rng.next_u64(), 0xe220_a839_7b1d_cdaf);
         assert_eq!(rng.next_u64(), 0x6e78_9e6a_a1b9_65f4);
+    }
+
+    #[test]
+    fn numbers_stay_below_their_bound() {
+        let mut rng = Rng::new(3);
+        let drawn: Vec<u64> = (0..200).map(|_| rng.below(5)).collect();
+        assert!((0..5).all(|number| drawn.contains(&number)));
+        assert!(drawn.iter().all(|number| *number < 5));
+        assert!((0..200).all(|_| [7, 8].contains(&rng.pick(&[7, 8]))));
     }
 }

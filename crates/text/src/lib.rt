@@ -6,7 +6,7 @@ ghost use lib.ListN.{length};
 pub const BAD: usize = 0xffff_ffff_ffff_ffff;
 
 // The lower-case hex digit of a number below 16.
-fn digit(x: u8) -> u8
+pub fn digit(x: u8) -> u8
     requires { ⌜ x < 16 ⌝ }
 {
     if x < 10 { x + 48 } else { x + 87 }

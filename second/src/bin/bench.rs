@@ -4,9 +4,9 @@
 use second::hmac::hmac_sha1;
 use second::listing::Request;
 use second::sha1::{sha1, Digest};
+use second::timing::{time, ROUNDS};
 use second::{hex, openssl::OpenSsl, rng::Rng, vectors};
 use std::hint::black_box;
-use std::time::{Duration, Instant};
 use std::{env, fs, process};
 
 // The C functions' types, and those of the calls that are timed.
@@ -31,13 +31,6 @@ const CHECKS: usize = 300;
 const HASHED_LENGTHS: [usize; 4] = [64, 512, 4_096, 65_536];
 const KEY_LENGTH: usize = 20;
 const MAC_LENGTHS: [usize; 2] = [20, 58];
-
-/// The best of so many rounds counts. In each round every implementation has
-/// one slice of time for each request, so that all see the same machine.
-const ROUNDS: usize = 30;
-const SLICE: Duration = Duration::from_millis(10);
-/// Calls between two looks at the clock, so that the looks cost next to nothing.
-const BATCH: u32 = 50;
 
 struct Implementation {
     name: &'static str,
@@ -183,22 +176,6 @@ fn best_times(requests: &[Request], implementations: &[Implementation]) -> Vec<V
         }
     }
     best
-}
-
-/// The mean time of a call, in nanoseconds, over one slice of time.
-fn time(call: impl Fn() -> Digest) -> f64 {
-    let start = Instant::now();
-    let mut calls = 0.0;
-    loop {
-        for _ in 0..BATCH {
-            black_box(call());
-        }
-        calls += f64::from(BATCH);
-        let elapsed = start.elapsed();
-        if elapsed >= SLICE {
-            return elapsed.as_nanos() as f64 / calls;
-        }
-    }
 }
 
 fn print_table(requests: &[Request], times: &[Vec<f64>]) {
