@@ -7,6 +7,7 @@ pub mod calls;
 pub mod codes;
 pub mod engine;
 pub mod engine_listing;
+pub mod files;
 pub mod hashes;
 pub mod hex;
 pub mod hmac;
