@@ -1,5 +1,5 @@
 # The commands that people and the gate use. README.md says what each is for.
-.PHONY: test demo embed hashes listings fuzz bench
+.PHONY: test demo embed hashes listings fuzz bench wrong
 
 SEED = 2
 CALLS = 1000000
@@ -28,3 +28,6 @@ fuzz:
 bench:
 	@tools/staticlib
 	@second/bench.sh
+
+wrong:
+	@tools/wrong $(CRATE)
