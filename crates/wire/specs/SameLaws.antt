@@ -39,7 +39,7 @@ same-is false xs ys e f = other (same xs ys) refl
 
 -- ---- differences
 
-or-none : (a b : ℕ) → bitOr a b ≡ 0 → (a ≡ 0) × (b ≡ 0)
+pub or-none : (a b : ℕ) → bitOr a b ≡ 0 → (a ≡ 0) × (b ≡ 0)
 or-none a b e = (omega (arith, or-add-and a b, and-le-l a b, and-le-r a b), omega (arith, or-add-and a b, and-le-l a b, and-le-r a b))
 
 xor-none : (a b : ℕ) → bitXor a b ≡ 0 → a ≡ b

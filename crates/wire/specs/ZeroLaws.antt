@@ -1,38 +1,22 @@
 -- Laws of a run of zeros: as a loop finds it, and as a list has it.
-use mathlib.Core.Path.{_≡_, refl, _∙_, sym, ap}
+use mathlib.Core.Path.{_≡_, refl, _∙_, sym}
 use mathlib.Core.Logic.{_⊎_, inl, inr, ⊎-elim}
 use mathlib.Core.Bool.{Bool, true, false}
-use mathlib.Core.List.{List, [], _∷_, _++_}
+use mathlib.Core.List.{List}
 use Prim.Native.Nat.{ℕ, zero, suc, _+_, _-_, _≤_, _<_}
 use native.Mathlib.Omega.{arith}
-use native.Mathlib.Nat.{add-assoc, add-zero}
+use native.Mathlib.Nat.{add-zero}
+use lib.Bits.{bitOr}
 use lib.Dec.{eqb}
-use lib.ListN.{length, getD, replicate, getD-replicate, length-replicate, length-take, length-drop, take, drop}
+use lib.ListN.{length, getD, List·getD-eq-default, replicate, getD-replicate, length-replicate, length-take, length-drop, drop}
 use lib.Seq.{ext-getD, getD-take, getD-drop}
-use borrow.Author.Tests.{eq-eqb, ne-eqb, eqb-true}
+use borrow.Author.Tests.{eq-eqb, ne-eqb, eqb-true, eqb-false}
 use Rattle.choice.specs.Choice.{both}
 use Rattle.choice.specs.ChoiceLaws.{both-true}
 use Rattle.wire.specs.Bytes.{part, number, zeros, patch}
 use Rattle.wire.specs.NumberLaws.{number-none}
+use Rattle.wire.specs.SameLaws.{or-none}
 use Rattle.wire.specs.PatchLaws.{at-outside}
-
--- ---- the loop: none left, one more, one that is not zero
-
-left-suc : (i e : ℕ) → i < e → e - i ≡ suc (e - (i + 1))
-left-suc i e h = omega arith
-
-pub zeros-none : (n a : ℕ) (l : List ℕ) → n ≡ 0 → zeros n a l ≡ true
-unfolding zeros
-zeros-none n a l z = rw z
-
-module _ (i e a : ℕ) (l : List ℕ) (h : i < e) where
-  pub zeros-more : getD l (a + i) 0 ≡ 0 → zeros (e - i) (a + i) l ≡ zeros (e - (i + 1)) (a + (i + 1)) l
-  unfolding zeros
-  zeros-more z = rw (left-suc i e h, z, add-assoc a i 1)
-
-  pub zeros-miss : (getD l (a + i) 0 ≡ 0 → ⊥) → zeros (e - i) (a + i) l ≡ false
-  unfolding zeros
-  zeros-miss z = rw (left-suc i e h, ne-eqb (getD l (a + i) 0) 0 z)
 
 -- ---- the bytes: each is zero, and each being zero is enough
 
@@ -51,6 +35,44 @@ zeros-all (suc n) a l e =
     let z : getD l a 0 ≡ 0 = rw add-zero at (e 0 (omega arith)) in
     let t : zeros n (a + 1) l ≡ true = zeros-all n (a + 1) l (λ i h. let q : a + suc i ≡ a + 1 + i = omega arith in rw q at (e (suc i) (omega arith))) in
     rw (eq-eqb (getD l a 0) 0 z, t)
+
+-- ---- the loop: the or of the bytes so far, and the bytes that are left
+
+or-zero : (x y : ℕ) → eqb (bitOr x y) 0 ≡ both (eqb x 0) (eqb y 0)
+or-zero x y = go (eqb x 0) (eqb y 0) refl refl
+  where
+    go : (s t : Bool) → eqb x 0 ≡ s → eqb y 0 ≡ t → eqb (bitOr x y) 0 ≡ both (eqb x 0) (eqb y 0)
+    go true true es et = rw (eqb-true x 0 es, eqb-true y 0 et)
+    go true false es et = rw (es, et) (ne-eqb (bitOr x y) 0 (λ e. eqb-false y 0 et (or-none x y e .1)))
+    go false t es et = rw es (ne-eqb (bitOr x y) 0 (λ e. eqb-false x 0 es (or-none x y e .0)))
+
+both-assoc : (r s t : Bool) → both (both r s) t ≡ both r (both s t)
+both-assoc true s t = refl
+both-assoc false s t = refl
+
+-- one byte more, of the bytes from i up to e
+pub zeros-more : (any i e : ℕ) (l : List ℕ) → i < e
+    → both (eqb (bitOr any (getD l i 0)) 0) (zeros (e - (i + 1)) (i + 1) l) ≡ both (eqb any 0) (zeros (e - i) i l)
+unfolding zeros
+zeros-more any i e l h =
+    let left : e - i ≡ suc (e - (i + 1)) = omega arith in
+    rw (left, or-zero any (getD l i 0), both-assoc (eqb any 0) (eqb (getD l i 0) 0) (zeros (e - (i + 1)) (i + 1) l))
+
+-- none left, up to e or up to the list's end
+pub zeros-done : (any i e : ℕ) (l : List ℕ) → (i ≡ e) ⊎ (length l ≤ i) → eqb any 0 ≡ both (eqb any 0) (zeros (e - i) i l)
+zeros-done any i e l end = rw (left end) (both-right (eqb any 0))
+  where
+    left : (i ≡ e) ⊎ (length l ≤ i) → zeros (e - i) i l ≡ true
+    left (inl at) = zeros-all (e - i) i l (λ j h. let f : ⊥ = omega arith in absurd f)
+    left (inr past) = zeros-all (e - i) i l (λ j h. List·getD-eq-default l 0 (omega arith))
+
+    both-right : (t : Bool) → t ≡ both t true
+    both-right true = refl
+    both-right false = refl
+
+pub zeros-none : (n a : ℕ) (l : List ℕ) → n ≡ 0 → zeros n a l ≡ true
+unfolding zeros
+zeros-none n a l z = rw z
 
 -- a patch apart
 pub zeros-outside : (xs : List ℕ) (a : ℕ) (ys : List ℕ) → a + length ys ≤ length xs → (n b : ℕ) → (b + n ≤ a) ⊎ (a + length ys ≤ b)

@@ -1,5 +1,6 @@
 // Bytes in lent lists: total reads, big-endian numbers, zeros, equality, and one write.
 ghost use mathlib.Core.Path.{_≡_};
+ghost use mathlib.Core.Logic.{_⊎_};
 ghost use Prim.Native.Nat.{_+_, _≤_, _<_};
 ghost use lib.ListN.{length, getD};
 ghost use Rattle.choice.specs.Choice.{both, either};
@@ -69,19 +70,26 @@ pub fn be48(s: &[u8], a: usize) -> u64
     (high as u64) * 65536 + low as u64
 }
 
-// Are the n bytes from a on zero?
+// The lesser of the two.
+fn least(a: usize, b: usize) -> usize
+    ensures { λ r. ⌜ (r ≤ a) × (r ≤ b) × ((r ≡ a) ⊎ (r ≡ b)) ⌝ }
+{
+    if a < b { a } else { b }
+}
+
+// Are the n bytes from a on zero? Past the list's end they are. The others are all looked at, so that the compiler can take many at once.
 pub fn are_zeros(s: &[u8], a: usize, n: usize) -> bool
     requires { ⌜ (a < 65536) × (n < 65536) ⌝ }
     ensures { λ r. ⌜ r ≡ zeros n a (now (s .entry)) ⌝ }
 {
-    let mut i = 0;
-    while i < n {
-        if at(s, a + i) != 0 {
-            return false;
-        }
+    let end = least(a + n, s.len());
+    let mut any: u8 = 0;
+    let mut i = a;
+    while i < end {
+        any = any | s[i];
         i += 1;
     }
-    true
+    any == 0
 }
 
 // The 20 bytes from a on.

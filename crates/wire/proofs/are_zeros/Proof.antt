@@ -1,62 +1,67 @@
--- Zeros so far: what is left decides.
-use mathlib.Core.Path.{_≡_, refl, _∙_, sym, ap}
-use Prim.Native.Nat.{_≤_, _-_, _+_}
+-- The or of the bytes so far and the zeros that are left decide together; at the end none are left.
+use mathlib.Core.Path.{_≡_, _∙_}
+use mathlib.Core.Logic.{inl, inr, ⊎-elim}
+use Prim.Native.Nat.{_+_, _-_, _≤_}
 use native.Mathlib.Omega.{arith}
-use native.Mathlib.Nat.{add-zero, sub-zero}
-use native.Mathlib.Numerals.{add-one}
 use denote.Ref.{now}
-use lib.ListN.{length}
-use lib.Seq.{paste, paste-zero, paste-suc, length-paste}
+use lib.Dec.{eqb}
+use Rattle.choice.specs.Choice.{both}
 use Rattle.wire.specs.Bytes.{zeros}
-use Rattle.wire.specs.ZeroLaws.{zeros-none, zeros-more, zeros-miss}
+use Rattle.wire.specs.ZeroLaws.{zeros-more, zeros-done}
 use borrow.Author.Needs.{needs}
 use Rattle.wire.proofs.are_zeros.Statement.{statement}
 use Rattle.wire.proofs.are_zeros.Tie as tie
 
 abbrev Inv-loop : tie.InvT-loop
-Inv-loop s a n i₀ i = (i ≤ n) × (zeros (n - i) (a + i) s ≡ zeros n a s)
+Inv-loop s a n end any₀ i₀ any i = (i ≤ a + n) × (both (eqb any 0) (zeros (a + n - i) i s) ≡ zeros n a s)
 
 abbrev μ-loop : tie.MeasureT-loop
-μ-loop s a n i₀ i = n - i
+μ-loop s a n end any₀ i₀ any i = end - i
+
+add-least : tie.Need-add-least Inv-loop μ-loop
+add-least c = search needs
+
+least-requires : tie.Need-least-requires Inv-loop μ-loop
+least-requires c κs = search needs
 
 loop-holds : tie.Need-loop-holds Inv-loop μ-loop
-loop-holds c =
-    let g = c .before .args in
-    (omega arith, rw (add-zero (g .a), sub-zero (g .n)))
+loop-holds c = let g = c .before .before .args in
+    let e : g .a + g .n - g .a ≡ g .n = omega arith in
+    (omega arith, rw e)
 
-add-at : tie.Need-add-at Inv-loop μ-loop
-add-at c = search needs
-
-at-requires : tie.Need-at-requires Inv-loop μ-loop
-at-requires c κs = search needs
-
-returns : tie.Need-returns Inv-loop μ-loop
-returns c =
-    let k = c .before .before .before in
-    let g = k .before .before .args in
-    let e = c .before .at .ensures in
-    sym (zeros-miss (k .loop .i) (g .n) (g .a) (now (g .s)) (omega arith) (λ z. c .if1 .taken (e ∙ z))) ∙ k .loop .inv .1
+shared-slice-read-any : tie.Need-shared-slice-read-any Inv-loop μ-loop
+shared-slice-read-any c = omega arith
 
 add-i : tie.Need-add-i Inv-loop μ-loop
-add-i c = search needs
+add-i c = omega arith
 
 loop-less : tie.Need-loop-less Inv-loop μ-loop
 loop-less c = search needs
 
 loop-again : tie.Need-loop-again Inv-loop μ-loop
 loop-again c =
-    let k = c .before .before .before in
-    let g = k .before .before .args in
-    let e = c .before .at .ensures in
-    (omega arith, sym (zeros-more (k .loop .i) (g .n) (g .a) (now (g .s)) (omega arith) (sym e ∙ c .if1 .left)) ∙ k .loop .inv .1)
+    let l = c .before .before .loop in
+    let g = c .before .before .before .before .before .args in
+    (omega arith, zeros-more (l .any) (l .i) (g .a + g .n) (now (g .s)) (omega arith) ∙ l .inv .1)
 
-returns-2 : tie.Need-returns-2 Inv-loop μ-loop
-returns-2 c =
-    let k = c .before in
-    let g = k .before .before .args in
-    sym (zeros-none (g .n - k .loop .i) (g .a + k .loop .i) (now (g .s)) (omega arith)) ∙ k .loop .inv .1
+returns : tie.Need-returns Inv-loop μ-loop
+returns c =
+    let l = c .before .loop in
+    let g = c .before .before .before .before .args in
+    let h = c .before .before .least .ensures .2 in
+    zeros-done (l .any) (l .i) (g .a + g .n) (now (g .s)) (⊎-elim (λ e. inl (omega arith)) (λ e. inr (omega arith)) h) ∙ l .inv .1
 
 pub are-zeros-spec : {M : Type 1} → statement M
 are-zeros-spec =
     tie.close
-    (tie.spec Inv-loop μ-loop loop-holds add-at at-requires returns add-i loop-less loop-again returns-2)
+    (tie.spec
+    Inv-loop
+    μ-loop
+    add-least
+    least-requires
+    loop-holds
+    shared-slice-read-any
+    add-i
+    loop-less
+    loop-again
+    returns)
