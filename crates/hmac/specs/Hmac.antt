@@ -1,6 +1,5 @@
 -- HMAC, after RFC 2104, section 2, over any hash.
 use Prim.Native.Nat.{ℕ, _+_, _-_}
-use mathlib.Core.Bool.{Bool, true, false}
 use mathlib.Core.List.{List, _++_, map}
 use lib.ListN.{length, replicate}
 use lib.Bits.{bitXor}

@@ -1,12 +1,13 @@
 -- Laws of the key's block and of the mask: what the code's copy and loop leave.
-use Prim.Native.Nat.{ℕ, zero, suc, _+_, _-_, _≤_, _<_}
+use Prim.Native.Nat.{ℕ, suc, _+_, _≤_, _<_}
 use mathlib.Core.Path.{_≡_, refl, sym, ap, ap₂, _∙_}
 use mathlib.Core.List.{List, [], _∷_, _++_, map, append-nil}
 use native.Mathlib.Omega.{arith}
 use native.Mathlib.Numerals.{add-one}
-use lib.ListN.{length, getD, take, drop, set, replicate, length-map, length-replicate, replicate-append-replicate, drop-of-length-le}
-use lib.Seq.{take-suc, drop-cons, set-at, getD-at, drop-at, append-snoc, length-take-le, take-all, paste}
+use lib.ListN.{length, getD, take, drop, set, replicate, length-map, drop-of-length-le}
+use lib.Seq.{take-suc, drop-cons, set-at, getD-at, append-snoc, length-take-le, take-all, paste}
 use lib.Bits.{bitXor}
+use Rattle.md.specs.PaddingLaws.{before-zeros}
 use Rattle.hmac.specs.Hmac.{extended, masked}
 
 -- ---- the mask, byte by byte
@@ -41,15 +42,6 @@ masked-done pad k b i h e =
 
 -- ---- zeros after a key
 
-drop-replicate : (n i a : ℕ) → i ≤ n → drop i (replicate n a) ≡ replicate (n - i) a
-drop-replicate n i a h =
-    let e : i + (n - i) ≡ n = omega arith in
-    ap (λ (x : ℕ). drop i (replicate x a)) (sym e) ∙ ap (drop i) (sym (replicate-append-replicate i (n - i) a))
-    ∙ drop-at (replicate i a) (replicate (n - i) a) i (length-replicate i a)
-
 pub extended-law : (n : ℕ) (k : List ℕ) → length k ≤ n → paste (replicate n 0) 0 k (length k) ≡ extended n k
 unfolding extended
-extended-law n k h =
-    let e : 0 + length k ≡ length k = omega arith in
-    ap₂ (λ (x y : List ℕ). x ++ y) (take-all (length k) k (omega arith))
-    (ap (λ (x : ℕ). drop x (replicate n 0)) e ∙ drop-replicate n (length k) 0 h)
+extended-law n k h = before-zeros n k h

@@ -2,7 +2,7 @@
 use Prim.Native.Nat.{ℕ}
 use mathlib.Core.Path.{_≡_}
 use mathlib.Core.List.{List}
-use Rattle.hmac.specs.Hmac.{Hash, ipad, opad, keyBlock, masked, innerText, bySha1}
+use Rattle.hmac.specs.Hmac.{Hash, opad, keyBlock, masked, innerText, bySha1}
 use Rattle.sha1.specs.Running.{Holds}
 use Rattle.hmac.specs.declared.Mac.{Mac}
 

@@ -1,10 +1,12 @@
 -- What feeding does, in its three cases: the part fits into the buffer's room, just fills it, or starts at a block's end.
-use Prim.Native.Nat.{ℕ, _+_, _-_, _*_, _/_, _%_, _^_, _≤_, _<_}
+use Prim.Native.Nat.{ℕ, _+_, _-_, _*_, _/_, _%_, _^_, _<_}
 use mathlib.Core.Path.{_≡_, sym, ap, ap₂, _∙_}
 use mathlib.Core.List.{List, _++_, append-nil}
 use native.Mathlib.Omega.{arith}
 use lib.ListN.{length, take, drop, length-append, length-drop, drop-of-length-le}
 use lib.Seq.{drop-append-add, drop-append-le, drop-append-seam, paste, take-paste, take-all}
+use Rattle.md.specs.Padding.{padding, padded}
+use Rattle.md.specs.PaddingLaws.{padding-mod}
 use Rattle.md.specs.Chain.{absorb, Taken}
 use Rattle.md.specs.ChainLaws.{absorb-add, absorb-last, absorb-front}
 
@@ -109,3 +111,26 @@ module _ {S : Type 0} (f : S → List ℕ → S) (s₀ h : S) (buf : List ℕ) (
             ap (λ (x : ℕ). take x b) em ∙ eb
             ∙ sym (ap (λ (x : ℕ). drop x (m ++ s)) e* ∙ drop-append-add m s (length s / 64 * 64));
       }
+
+-- the end: a tail that is all that the state has not absorbed, followed by the padding of the count, absorbed from the state on, gives
+-- the padded message absorbed from the start on
+blocks-ended : (l n t : ℕ) → t ≡ l % 64 → (l + n) / 64 ≡ l / 64 + (t + n) / 64
+blocks-ended l n t e = omega arith
+
+pub absorb-end : {S : Type 0} (f : S → List ℕ → S) (s₀ h : S) (tail : List ℕ) (total : ℕ) (m : List ℕ) → Taken f s₀ h tail total m → length tail ≡ total % 64
+    → absorb f (length (tail ++ padding total) / 64) h (tail ++ padding total) ≡ absorb f (length (padded m) / 64) s₀ (padded m)
+unfolding padded
+absorb-end f s₀ h tail total m k et =
+    let ep : padding total ≡ padding (length m) = ap padding (k .count) ∙ padding-mod (length m) in
+    let el : length tail ≡ length m % 64 = et ∙ fill-of _ _ (k .count) in
+    let rest : tail ≡ drop (length m / 64 * 64) m = sym (take-all (length m % 64) tail (omega arith)) ∙ k .rest in
+    let eb : length (m ++ padding (length m)) / 64 ≡ length m / 64 + length (tail ++ padding (length m)) / 64 =
+    ap (λ (x : ℕ). x / 64) (length-append m (padding (length m))) ∙ blocks-ended (length m) (length (padding (length m))) (length tail) el
+    ∙ ap (λ (x : ℕ). length m / 64 + x / 64) (sym (length-append tail (padding (length m)))) in
+    let er : drop (length m / 64 * 64) (m ++ padding (length m)) ≡ tail ++ padding (length m) =
+    drop-append-le (length m / 64 * 64) m (padding (length m)) (omega arith) ∙ ap (λ (x : List ℕ). x ++ padding (length m)) (sym rest) in
+    ap (λ (x : List ℕ). absorb f (length (tail ++ x) / 64) h (tail ++ x)) ep
+    ∙ sym
+    (ap (λ (x : ℕ). absorb f x s₀ (m ++ padding (length m))) eb
+    ∙ absorb-add f (length m / 64) (length (tail ++ padding (length m)) / 64) s₀ (m ++ padding (length m))
+    ∙ ap₂ (absorb f (length (tail ++ padding (length m)) / 64)) (absorb-front f (length m / 64) s₀ m (padding (length m)) (omega arith) ∙ sym (k .whole)) er)

@@ -1,7 +1,6 @@
 -- Parts taken in one after another are the whole taken in.
 use Prim.Native.Nat.{ℕ}
-use mathlib.Core.Path.{_≡_, subst, sym}
-use mathlib.Core.List.{List, [], _∷_, _++_, append-assoc, append-nil}
+use mathlib.Core.List.{List, _++_, append-assoc, append-nil}
 use Rattle.md.specs.Parts.{joined, Takes, TakesAll, none, more}
 
 module _ {R : Type 0} (Holds : R → List ℕ → Type 0) where

@@ -1,17 +1,18 @@
--- Laws of the running state: the three ways in which it takes in a part.
+-- Laws of the running state: the three ways in which it takes in a part, and how a message ends.
 use Prim.Native.Nat.{ℕ, _+_, _-_, _*_, _/_, _%_, _^_, _≤_, _<_}
-use mathlib.Core.Path.{_≡_, refl, sym, ap, _∙_, subst}
+use mathlib.Core.Path.{_≡_, sym, ap, _∙_, subst}
 use mathlib.Core.List.{List, _++_, append-assoc}
 use native.Mathlib.Omega.{arith}
 use lib.ListN.{length, take, drop, length-drop, take-append-drop}
-use lib.Seq.{paste, take-paste, take-all, length-take-le}
+use lib.Seq.{paste, take-paste, take-all, take-take, length-take-le}
 use Rattle.md.specs.Chain.{absorb, Taken}
 use Rattle.md.specs.ChainLaws.{absorb-block}
-use Rattle.md.specs.FeedLaws.{feed-short, feed-full, feed-aligned}
+use Rattle.md.specs.FeedLaws.{feed-short, feed-full, feed-aligned, absorb-end}
+use Rattle.md.specs.Padding.{padding}
 use Rattle.md.specs.Parts.{Takes}
 use Rattle.sha1.specs.declared.block.State.{State}
 use Rattle.sha1.specs.declared.Running.{Running}
-use Rattle.sha1.specs.Sha1.{compressed, initial}
+use Rattle.sha1.specs.Sha1.{compressed, initial, digestOf, blocks, sha1}
 use Rattle.sha1.specs.Running.{Holds, Continued}
 
 -- ---- numbers: a part is what fills the buffer and then the rest
@@ -21,6 +22,9 @@ boundary t fill room p q = omega arith
 
 count-both : (t room n c : ℕ) → room ≤ n → c ≡ (t + n) % 2 ^ 64 → c ≡ ((t + room) % 2 ^ 64 + (n - room)) % 2 ^ 64
 count-both t room n c h e = omega arith
+
+filled : (total l fill : ℕ) → fill ≡ total % 64 → total ≡ l % 2 ^ 64 → l % 64 ≡ fill
+filled total l fill ef et = omega arith
 
 rest-fits : (n : ℕ) → n - n / 64 * 64 ≡ n % 64
 rest-fits n = omega arith
@@ -73,3 +77,23 @@ module _ (r t : Running) (part : List ℕ) (n : ℕ) (en : n ≡ (r .total + len
       let h₂ : Taken compressed initial (t .state) (t .buffer) (t .total) ((m ++ p) ++ q) =
       feed-aligned compressed initial first filled mid (m ++ p) q h₁ (t .buffer) (t .state) (t .total) (boundary (r .total) fill room ef er) (k .state) (k .buffer) en₂ in
       subst (λ (x : List ℕ). Holds t x) (append-assoc m p q ∙ ap (λ (x : List ℕ). m ++ x) (take-append-drop room part)) h₂
+
+-- ---- the end
+
+-- only the bytes of the buffer that the message fixes count
+pub buffer-cut : (h : State) (buffer : List ℕ) (total fill : ℕ) (m : List ℕ) → fill ≡ total % 64 → Taken compressed initial h buffer total m
+    → Taken compressed initial h (take fill buffer) total m
+buffer-cut h buffer total fill m ef k =
+    let e : length m % 64 ≡ fill = filled total (length m) fill ef (k .count) in
+    record {
+      count = k .count;
+      whole = k .whole;
+      rest = take-take (length m % 64) fill buffer (omega arith) ∙ k .rest;
+    }
+
+-- what is left of a message, padded, is absorbed from the state that the message's whole blocks gave
+pub finished : (h v : State) (tail b : List ℕ) (total : ℕ) (m : List ℕ) → length tail ≡ total % 64 → b ≡ tail ++ padding total
+    → v ≡ absorb compressed (length b / 64) h b → Taken compressed initial h tail total m → digestOf v ≡ sha1 m
+unfolding sha1 blocks
+finished h v tail b total m et eb ev k =
+    ap digestOf (ev ∙ ap (λ (x : List ℕ). absorb compressed (length x / 64) h x) eb ∙ absorb-end compressed initial h tail total m k et)

@@ -1,6 +1,5 @@
 -- SHA-1, after FIPS 180-4, section by section. Each definition is to be held against the section that it names.
 use Prim.Native.Nat.{ℕ, zero, suc, _+_, _-_, _*_, _/_}
-use mathlib.Core.Bool.{Bool, true, false}
 use mathlib.Core.List.{List, [], _∷_, _++_}
 use lib.ListN.{length, getD}
 use lib.Dec.{ltb}

@@ -1,5 +1,5 @@
 -- Laws of SHA-1's definitions: the four ranges of t, a turn of each loop, the length of a digest and its count of blocks.
-use Prim.Native.Nat.{ℕ, zero, suc, _+_, _*_, _/_, _-_, _≤_, _<_}
+use Prim.Native.Nat.{ℕ, zero, suc, _+_, _*_, _-_, _≤_, _<_}
 use mathlib.Core.Path.{_≡_, refl, sym, ap, ap₂, _∙_, subst}
 use mathlib.Core.List.{List, [], _∷_, _++_}
 use native.Mathlib.Omega.{arith}
@@ -8,14 +8,11 @@ use native.Mathlib.Nat.{add-suc, add-zero, add-assoc}
 use lib.ListN.{length, getD, take, set, length-append, length-set}
 use lib.Seq.{take-suc-set, take-all, take-take, take-append-le, take-set-le, getD-take, getD-at}
 use borrow.Author.Tests.{lt-ltb, le-ltb}
-use Rattle.choice.specs.Choice.{pick}
 use Rattle.words.specs.Words.{ch, parity, maj, wordAt, bytes32}
-use Rattle.md.specs.Padding.{padding, padded, blockCount}
+use Rattle.md.specs.Padding.{blockCount}
 use Rattle.md.specs.PaddingLaws.{padded-blocks}
 use Rattle.sha1.specs.declared.block.State.{State}
-use Rattle.sha1.specs.declared.Running.{Running}
-use Rattle.sha1.specs.Sha1.{f, K, mixed, W, schedule, turned, round, rounds, plus, compressed, initial, digestOf, blocks, sha1}
-use Rattle.sha1.specs.Running.{Holds}
+use Rattle.sha1.specs.Sha1.{f, K, mixed, W, schedule, turned, round, rounds, plus, compressed, digestOf, blocks, sha1}
 use Rattle.sha1.specs.Begun.{Begun}
 
 -- ---- the four ranges of t (4.1.1, 4.2.1)
@@ -183,10 +180,6 @@ chain-eighty block h v₀ v₁ v₂ v₃ r e₀ e₁ e₂ e₃ er =
     ∙ sym (rounds-add w 0 60 20 h))
 
 -- ---- the end
-
-pub finished : (r : Running) (m d : List ℕ) → Holds r (m ++ padding (length m)) → d ≡ digestOf (r .state) → d ≡ sha1 m
-unfolding sha1 blocks padded
-finished r m d k e = e ∙ ap digestOf (k .whole)
 
 pub sha1-length : (m : List ℕ) → length (sha1 m) ≡ 20
 unfolding sha1 digestOf bytes32

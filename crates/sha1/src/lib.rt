@@ -4,18 +4,19 @@ mod block;
 pub use block::State;
 ghost use mathlib.Core.Path.{_≡_};
 ghost use mathlib.Core.List.{List, []};
-ghost use Prim.Native.Nat.{ℕ, _/_};
+ghost use Prim.Native.Nat.{ℕ, _/_, _%_};
 ghost use lib.ListN.{length};
-ghost use Rattle.md.specs.Chain.{absorb};
+ghost use Rattle.md.specs.Chain.{absorb, Taken};
 ghost use Rattle.md.specs.Parts.{Takes};
-ghost use Rattle.sha1.specs.Sha1.{compressed, digestOf, sha1};
+ghost use Rattle.sha1.specs.Sha1.{initial, compressed, digestOf, sha1};
 ghost use Rattle.sha1.specs.Running.{Holds, Continued};
 
-// A hash that has taken in a message so far: the state after its whole blocks, the bytes since, and its length.
+// A hash that has taken in a message so far: the bytes after its whole blocks, its length, and the state after its whole blocks. In this
+// order a copy of the struct and one of the buffer go by the same pieces, so that neither waits for the other's stores.
 pub struct Running {
-    pub state: State,
     pub buffer: [u8; 64],
     pub total: u64,
+    pub state: State,
 }
 
 // The hash value after the whole blocks of m.
@@ -131,15 +132,24 @@ fn digest(h: State) -> [u8; 20]
     ]
 }
 
+// The digest of a message of total bytes whose whole blocks took the hash value to h, and whose other bytes are tail.
+fn last(h: State, tail: &[u8], total: u64) -> [u8; 20]
+    requires { ⌜ length (now tail) ≡ total % 64 ⌝ }
+    ensures { λ d. ⌜ ((m : List ℕ) → Taken compressed initial h (now (tail .entry)) total m → d ≡ sha1 m) ⌝ }
+{
+    let b = md::ending(tail, total);
+    let n = tail.len() + (md::zeros_for(total) + 9);
+    digest(whole_blocks(h, &b[..n]))
+}
+
 // The digest of what r has taken in.
 pub fn finish(r: Running) -> [u8; 20]
     ensures { λ d. ⌜ ((m : List ℕ) → Holds r m → d ≡ sha1 m) ⌝ }
 {
-    let z = md::zeros_for(r.total);
-    let p = md::pad_bytes(r.total, z);
-    let n = z + 9;
-    let t = feed(r, &p[..n]);
-    digest(t.state)
+    let total = r.total;
+    let fill = (total % 64) as usize;
+    let b = r.buffer;
+    last(r.state, &b[..fill], total)
 }
 
 // The digest of a message.

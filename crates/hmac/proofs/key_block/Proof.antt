@@ -1,7 +1,6 @@
 -- A key of at most a block stands as it is; a longer one is hashed.
-use native.Mathlib.Omega.{arith}
 use mathlib.Core.Path.{_∙_, sym, ap}
-use Rattle.hmac.specs.Hmac.{keyBlock, extended, bySha1}
+use Rattle.hmac.specs.Hmac.{extended, bySha1}
 use Rattle.hmac.specs.HmacLaws.{short-key, long-key}
 use borrow.Author.Needs.{needs}
 use Rattle.hmac.proofs.key_block.Statement.{statement}

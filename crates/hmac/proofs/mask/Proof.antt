@@ -1,11 +1,10 @@
 -- The bytes so far are masked, and the others as they were.
-use mathlib.Core.Path.{_≡_, _∙_, ap, sym}
+use mathlib.Core.Path.{_≡_}
 use mathlib.Core.List.{_++_}
-use Prim.Native.Nat.{ℕ, _+_, _-_, _≤_}
+use Prim.Native.Nat.{_-_, _≤_}
 use native.Mathlib.Omega.{arith}
 use borrow.Author.Needs.{needs}
 use lib.ListN.{length, take, drop, length-set}
-use lib.Seq.{take-all}
 use Rattle.hmac.specs.Hmac.{masked}
 use Rattle.hmac.specs.KeyLaws.{masked-none, masked-more, masked-done}
 use Rattle.hmac.proofs.mask.Statement.{statement}
