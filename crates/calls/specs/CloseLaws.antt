@@ -23,7 +23,8 @@ use Rattle.slots.specs.declared.SlotState.{SlotState}
 use Rattle.slots.specs.declared.SlotState.the-variants.{Free, Open, Unsound}
 use Rattle.judge.specs.Command.{codeOf, pageOf}
 use Rattle.judge.specs.Judgement.{test, first, pageTests, openTests, openReason}
-use Rattle.judge.specs.OrderLaws.{orElse, first-append, first-none, or-else-none, else-first, reason-none, open-passed, open-named}
+use Rattle.judge.specs.Order.{orElse}
+use Rattle.judge.specs.OrderLaws.{first-append, first-none, or-else-none, else-first, reason-none, open-passed, open-named}
 use Rattle.pages.specs.Out.{wrongList}
 use Rattle.calls.specs.Lent.{Lent, gives, rightlyLent}
 use Rattle.calls.specs.Close.{listTests, closeReason, endPlan, rejudgedPlan, heldPlan, closePlan, applyClose, closeOut}

@@ -24,11 +24,11 @@ use Rattle.calls.specs.CloseLaws.{close-none}
 use Rattle.calls.specs.Answers.{isGood}
 use Rattle.calls.specs.Whole.{Asked, Whole, whole}
 use Rattle.calls.specs.WholeCases.{wholeReason, whole-cases}
-use Rattle.calls.specs.Run.{Tables, Call, Event, Meets, Ran, ledgerOf, starts, Done, doneIn, dones, Singly}
-use Rattle.calls.specs.StepLaws.{Fits, step as call-step}
+use Rattle.calls.specs.Run.{Tables, Call, Event, Meets, Ran, ledgerOf, starts, Done, doneIn, dones, Singly, Fits}
+use Rattle.calls.specs.StepLaws.{step as call-step}
 use Rattle.calls.specs.Sequence.{SoundTables, sequence}
-use Rattle.calls.specs.History.{KeySet, startKeys, history, keySaid}
-use Rattle.calls.specs.HistoryLaws.{Says, says-start, says-run}
+use Rattle.calls.specs.History.{KeySet, Says, startKeys, history, keySaid}
+use Rattle.calls.specs.HistoryLaws.{says-start, says-run}
 
 -- every check, against the unit's record, with a key that the key set says is valid
 pub record CheckedBy (rec : List ℕ) (keys : KeySet) (k : Asked) (clock : ℕ) : Type 0 where

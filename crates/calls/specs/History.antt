@@ -1,9 +1,10 @@
 -- The key history of a key set: the keys that the starting keys and the GOOD key commands since say are valid, by version. It has no mask, no
 -- place and no byte of a later record. A unit's key set is its own today (`keySetOf`).
+use mathlib.Core.Path.{_≡_}
 use mathlib.Core.Bool.{Bool, true, false}
 use mathlib.Core.Option.{Option, none, some}
 use mathlib.Core.List.{List, [], _∷_, _++_}
-use Prim.Native.Nat.{ℕ}
+use Prim.Native.Nat.{ℕ, _<_}
 use lib.Dec.{eqb}
 use lib.ListN.{replicate}
 use Rattle.choice.specs.Choice.{both, pick}
@@ -101,3 +102,13 @@ keySaid k master change v =
     pick master
     (pick (both (eqb v 0) (pick change (k .pending) true)) (some (pick change (k .next-auth) (k .auth))) none)
     (k .working v)
+
+-- a record says what a key set says
+pub record Says (k : KeySet) (rec : List ℕ) : Type 0 where
+  pub name : k .name ≡ identifier rec
+  pub auth : k .auth ≡ authKey rec
+  pub generation : k .generation ≡ genKey rec
+  pub next-auth : k .next-auth ≡ nextAuthKey rec
+  pub next-generation : k .next-generation ≡ nextGenKey rec
+  pub pending : k .pending ≡ eqb (step rec) 1
+  pub working : (v : ℕ) → v < 16 → k .working v ≡ pick (isValid v rec) (some (workingKey v rec)) none

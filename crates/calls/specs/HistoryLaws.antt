@@ -13,7 +13,7 @@ use Rattle.choice.specs.Choice.{both, pick}
 use Rattle.hmac.specs.Hmac.{hmac, bySha1}
 use Rattle.model.specs.declared.Answer.the-variants.{Good}
 use Rattle.model.specs.Refusal.{refusal}
-use Rattle.units.specs.Unit.{unitAt, step, identifier, authKey, genKey, nextAuthKey, nextGenKey, isValid, workingKey}
+use Rattle.units.specs.Unit.{unitAt, step, isValid, workingKey}
 use Rattle.judge.specs.Command.{codeOf, pageOf}
 use Rattle.pages.specs.Out.{newMethod, newTag, newVersion, seed, agreed, wrongList}
 use Rattle.pages.specs.OutLaws.{right-version}
@@ -24,17 +24,7 @@ use Rattle.calls.specs.Answers.{isHandled}
 use Rattle.calls.specs.Whole.{Whole, obeyed, whole}
 use Rattle.calls.specs.WholeCases.{whole-cases, whole-length, Obeys, obeys, obeyed-here, obeyed-others}
 use Rattle.calls.specs.Run.{Done, Singly}
-use Rattle.calls.specs.History.{KeySet, startKeys, keySet, seedExchanged, masterChanged, keyCommand, isKeyCommand, history}
-
--- a record says what a key set says
-pub record Says (k : KeySet) (rec : List ℕ) : Type 0 where
-  pub name : k .name ≡ identifier rec
-  pub auth : k .auth ≡ authKey rec
-  pub generation : k .generation ≡ genKey rec
-  pub next-auth : k .next-auth ≡ nextAuthKey rec
-  pub next-generation : k .next-generation ≡ nextGenKey rec
-  pub pending : k .pending ≡ eqb (step rec) 1
-  pub working : (v : ℕ) → v < 16 → k .working v ≡ pick (isValid v rec) (some (workingKey v rec)) none
+use Rattle.calls.specs.History.{KeySet, Says, startKeys, keySet, seedExchanged, masterChanged, keyCommand, isKeyCommand, history}
 
 pub says-start : (rec : List ℕ) → Says (startKeys rec) rec
 says-start rec = record { name = refl; auth = refl; generation = refl; next-auth = refl; next-generation = refl; pending = refl; working = λ v h. refl }

@@ -29,8 +29,7 @@ use Rattle.calls.specs.Open.{applyOpen, openOut}
 use Rattle.calls.specs.OpenLaws.{lengths-are, token-is, count-least}
 use Rattle.calls.specs.Close.{applyClose, closeOut}
 use Rattle.calls.specs.Cases.{Opens, open-cases, Closes, close-cases, slotReason}
-use Rattle.calls.specs.Whole.{Asked, obeyed}
-use Rattle.calls.specs.WholeLaws.{heldBy}
+use Rattle.calls.specs.Whole.{Asked, obeyed, heldBy}
 use Rattle.calls.specs.WholeCases.{obeys, obeyed-others}
 use Rattle.calls.specs.declared.opening.Opening.{Opening}
 use Rattle.calls.specs.declared.closing.Closing.{Closing}

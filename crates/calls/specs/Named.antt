@@ -35,8 +35,7 @@ use Rattle.calls.specs.OpenLaws.{count-least, lengths-are}
 use Rattle.pages.specs.OutLaws.{right-version}
 use Rattle.pages.specs.Effects.{workingKeySet, newRecord}
 use Rattle.pages.specs.EffectLaws.{key-valid, key-working, key-differs}
-use Rattle.calls.specs.Whole.{Asked, obeyed}
-use Rattle.calls.specs.WholeLaws.{heldBy}
+use Rattle.calls.specs.Whole.{Asked, obeyed, heldBy}
 use Rattle.calls.specs.WholeCases.{obeys, obeyed-here, used-length}
 use Rattle.calls.specs.Close.{rejudgedPlan, heldPlan, closePlan, applyClose, closeOut}
 use Rattle.calls.specs.CloseLaws.{close-early, close-none}

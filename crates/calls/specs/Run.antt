@@ -5,7 +5,7 @@ use mathlib.Core.Option.{Option, none, some}
 use mathlib.Core.List.{List, [], _∷_, _++_}
 use Prim.Native.Nat.{ℕ, _+_, _<_}
 use lib.Dec.{eqb}
-use lib.ListN.{take}
+use lib.ListN.{length, take}
 use Rattle.choice.specs.Choice.{pick}
 use Rattle.wire.specs.Bytes.{patch}
 use Rattle.model.specs.declared.Answer.{Answer}
@@ -19,8 +19,7 @@ use Rattle.calls.specs.Lent.{lent, gives}
 use Rattle.calls.specs.Open.{openOut}
 use Rattle.calls.specs.Close.{closeOut}
 use Rattle.calls.specs.Answers.{isFinal, countIn}
-use Rattle.calls.specs.Whole.{Asked, whole}
-use Rattle.calls.specs.WholeLaws.{heldBy}
+use Rattle.calls.specs.Whole.{Asked, whole, heldBy}
 
 -- ---- the calls
 
@@ -179,3 +178,18 @@ finalIn resets a = 0
 abbrev pub finals : List Event → ℕ
 finals [] = 0
 finals (e ∷ es) = finalIn (e .call) (e .answer) + finals es
+
+-- ---- what one call of a run does
+
+-- tables of their sizes, whose slots are sound and agree with the ledger
+pub record Fits (t : Tables) (ledger : Ledger) : Type 0 where
+  pub units-length : length (t .units) ≡ 4096
+  pub slots-length : length (t .slots) ≡ 8192
+  pub agrees : Agrees (t .slots) ledger
+
+-- the tables that it leaves, the whole command that it answers, if any, and its reply
+pub record Stepped (t : Tables) (ledger : Ledger) (e : Event) (n : Tables) : Type 0 where
+  pub fits : Fits n (after ledger (e .call) (e .answer))
+  pub singly : Singly (t .units) (doneIn ledger (e .call) (e .answer) (e .reply)) (n .units)
+  pub counted : length (doneIn ledger (e .call) (e .answer) (e .reply)) ≡ finalIn (e .call) (e .answer)
+  pub reply-kept : KeepsReply (e .call) (e .answer) (e .reply)

@@ -39,10 +39,10 @@ use Rattle.calls.specs.CloseLaws.{is-open-state, close-h1}
 use Rattle.calls.specs.Leaves.{front-written}
 use Rattle.calls.specs.Answers.{isFinal, countIn}
 use Rattle.calls.specs.Cases.{Opens, Closes}
-use Rattle.calls.specs.Whole.{Asked, asked, whole}
-use Rattle.calls.specs.WholeLaws.{openedWhole, closedWhole, parks, heldBy, open-whole, close-whole}
+use Rattle.calls.specs.Whole.{Asked, asked, whole, heldBy, parks, openedWhole, closedWhole}
+use Rattle.calls.specs.WholeLaws.{open-whole, close-whole}
 use Rattle.calls.specs.WholeCases.{whole-final, whole-written, whole-length}
-use Rattle.calls.specs.Run.{Tables, tables, Call, opens, closes, aborts, resets, Event, event, Meets, Ledger, put, entered, after, vacant, held, view, toView, Agrees, done, doneIn, Singly, KeepsReply, finalIn}
+use Rattle.calls.specs.Run.{Tables, tables, Call, opens, closes, aborts, resets, event, Meets, Ledger, put, entered, vacant, held, view, toView, Agrees, done, Singly, Fits, Stepped}
 
 -- ---- an open goes one of five ways, and a close one of three
 
@@ -132,19 +132,7 @@ pub held-some : (o : Option Asked) (k : Asked) → held k ≡ toView o → o ≡
 held-some none k e = let z : _≡_ {A = ℕ} 0 1 = cc in absurd (omega arith)
 held-some (some x) k e = cc
 
--- ---- the invariant, and what one call does
-
--- tables of their sizes, whose slots are sound and agree with the ledger
-pub record Fits (t : Tables) (ledger : Ledger) : Type 0 where
-  pub units-length : length (t .units) ≡ 4096
-  pub slots-length : length (t .slots) ≡ 8192
-  pub agrees : Agrees (t .slots) ledger
-
-pub record Stepped (t : Tables) (ledger : Ledger) (e : Event) (n : Tables) : Type 0 where
-  pub fits : Fits n (after ledger (e .call) (e .answer))
-  pub singly : Singly (t .units) (doneIn ledger (e .call) (e .answer) (e .reply)) (n .units)
-  pub counted : length (doneIn ledger (e .call) (e .answer) (e .reply)) ≡ finalIn (e .call) (e .answer)
-  pub reply-kept : KeepsReply (e .call) (e .answer) (e .reply)
+-- ---- what one call does
 
 -- an outcome that is known tells the answer, the tables and the reply
 module _ (t : Tables) (ledger : Ledger) (k : Call) (a : Answer) (r : List ℕ) (n : Tables) where

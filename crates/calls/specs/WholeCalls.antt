@@ -26,14 +26,15 @@ use Rattle.slots.specs.TableLaws.{slot-length}
 use Rattle.slots.specs.declared.Found.the-variants.{At}
 use Rattle.judge.specs.Command.{codeOf}
 use Rattle.judge.specs.Judgement.{openReason}
-use Rattle.judge.specs.OrderLaws.{Passed, open-passed}
+use Rattle.judge.specs.Order.{Passed}
+use Rattle.judge.specs.OrderLaws.{open-passed}
 use Rattle.calls.specs.Lent.{Lent, lent, gives, rightLengths, rightlyLent}
 use Rattle.calls.specs.Open.{rightToken, slotPlan, applyOpen, openOut}
 use Rattle.calls.specs.OpenLaws.{lengths-are, token-is}
 use Rattle.calls.specs.Close.{closeOut}
 use Rattle.calls.specs.Cases.{Opens, Closes}
-use Rattle.calls.specs.Whole.{Asked, whole}
-use Rattle.calls.specs.WholeLaws.{openedWhole, closedWhole, parks, heldBy, open-whole, close-whole}
+use Rattle.calls.specs.Whole.{Asked, whole, heldBy, parks, openedWhole, closedWhole}
+use Rattle.calls.specs.WholeLaws.{open-whole, close-whole}
 use Rattle.calls.specs.StepLaws.{parked-out, held-parked}
 
 -- ---- a record that is put over another, and put back

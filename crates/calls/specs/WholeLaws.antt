@@ -15,19 +15,19 @@ use Rattle.model.specs.Codes.{dataOut}
 use Rattle.model.specs.CodeLaws.{legal-some}
 use Rattle.model.specs.Refusal.{refusal}
 use Rattle.model.specs.declared.Answer.the-variants.{Good, Run}
-use Rattle.slots.specs.Slot.{slotAt, slotStateOf, isOpen, slotUnit, slotCommand, slotToken, commandLength, freed}
+use Rattle.slots.specs.Slot.{slotAt, slotStateOf, isOpen, slotCommand, commandLength}
 use Rattle.slots.specs.SlotLaws.{open-sound}
 use Rattle.slots.specs.declared.SlotState.the-variants.{Open}
 use Rattle.judge.specs.Command.{codeOf, pageOf}
 use Rattle.judge.specs.Judgement.{first, openReason}
-use Rattle.judge.specs.OrderLaws.{orElse}
+use Rattle.judge.specs.Order.{orElse}
 use Rattle.pages.specs.In.{sizeOf, countOf}
-use Rattle.calls.specs.Lent.{Lent, lent, Outcome, gives, rightlyLent}
+use Rattle.calls.specs.Lent.{Lent, rightlyLent}
 use Rattle.calls.specs.Open.{rightToken, isReplied, passedPlan, judgedPlan, openPlan, applyOpen, openOut}
 use Rattle.calls.specs.Close.{listTests, closeReason, endPlan, rejudgedPlan, heldPlan, closePlan, applyClose, closeOut}
 use Rattle.calls.specs.CloseLaws.{close-order, close-early, is-open-state}
 use Rattle.calls.specs.Cases.{Closes, slotReason}
-use Rattle.calls.specs.Whole.{Asked, asked, Whole, whole-of, replied, obeyed, passedWhole, whole}
+use Rattle.calls.specs.Whole.{Asked, whole-of, replied, obeyed, passedWhole, whole, heldBy, parks, openedWhole, closedWhole}
 use Rattle.calls.specs.declared.opening.Opening.the-variants.{Say, Reply}
 use Rattle.calls.specs.declared.closing.Closing.the-variants.{End, Obey}
 
@@ -62,17 +62,6 @@ module _ (units : List ℕ) (u : ℕ) (c token d : List ℕ) (clock : ℕ) where
   pub same-reason : eqb (codeOf c) 0xB5 ≡ false → closeReason units u c token d clock ≡ openReason units u c token clock
   same-reason e =
       sym (close-order units u c token d clock) ∙ ap (orElse (openReason units u c token clock)) (list-none e) ∙ else-none (openReason units u c token clock)
-
--- the outcome of a whole command that an open answers, and of one that a close does
-abbrev pub openedWhole : Lent → Whole → Outcome
-openedWhole l w = gives (w .answer) (lent (w .units) (l .slots) (patch (l .reply) 0 (w .written)))
-
-abbrev pub closedWhole : Lent → ℕ → Whole → Outcome
-closedWhole l s w = gives (w .answer) (lent (w .units) (freed s (l .slots)) (patch (l .reply) 0 (w .written)))
-
--- does an open park it? Nothing refuses, and the command carries data out
-abbrev pub parks : List ℕ → Asked → ℕ → Bool
-parks units k clock = both (eqb (openReason units (k .unit) (k .command) (k .token) clock) 0) (dataOut (codeOf (k .command)))
 
 -- ---- an open that doesn't park gives the whole command, whatever data would have come
 
@@ -111,11 +100,7 @@ module _ (l : Lent) (k : Asked) (d : List ℕ) (clock : ℕ) (lengths : rightlyL
 
 -- ---- a close of an open slot gives the whole command that the slot holds
 
--- the command that a slot's record holds
-abbrev pub heldBy : List ℕ → Asked
-heldBy rec = asked (slotUnit rec) (slotCommand rec) (slotToken rec)
-
--- it carries data out
+-- a command that a slot holds carries data out
 pub held-code : (rec : List ℕ) → slotStateOf rec ≡ Open → dataOut (codeOf (slotCommand rec)) ≡ true
 unfolding slotCommand
 held-code rec e =

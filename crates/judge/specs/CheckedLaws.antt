@@ -20,7 +20,8 @@ use Rattle.judge.specs.Descriptor.{format, keyVersion, capMethod, algori
 use Rattle.judge.specs.Faults.{wrongFormat, wrongMethod, wrongAlgorithm, expired, lacksBits, wrongTag, wrongDescriptor}
 use Rattle.judge.specs.Keys.{keyFound, keyUsed, capabilityKey, validationTag, checkValue}
 use Rattle.judge.specs.Judgement.{test, first, formTests, factTests, keyTests, rulesFor, skipsGuard, capabilityTests, guardTests, openReason}
-use Rattle.judge.specs.OrderLaws.{earlyReason, lateReason, first-none, or-else-none, reason-none, capability-order, capability-named, open-passed}
+use Rattle.judge.specs.Order.{earlyReason, lateReason}
+use Rattle.judge.specs.OrderLaws.{first-none, or-else-none, reason-none, capability-order, capability-named, open-passed}
 use Rattle.judge.specs.Checked.{behindCdb, Checked}
 
 -- a test of two parts that does not apply: the first fails, or the second does

@@ -1,10 +1,11 @@
--- What the crate's contracts cite: Command, Descriptor, Faults and Judgement hold the meanings, Edges document 01's examples of them.
+-- What the crate's contracts cite: Command, Descriptor, Faults, Judgement and Order hold the meanings, Edges document 01's examples of them.
 pub mod Command
 pub mod Descriptor
 pub mod Faults
 pub mod FaultLaws
 pub mod Judgement
 pub mod JudgementLaws
+pub mod Order
 pub mod OrderLaws
 pub mod Checked
 pub mod CheckedLaws

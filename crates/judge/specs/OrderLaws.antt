@@ -17,15 +17,7 @@ use Rattle.units.specs.declared.UnitState.the-variants.{Unused, Used, Unsound}
 use Rattle.units.specs.Unit.{unitState, unitAt}
 use Rattle.judge.specs.Command.{codeOf, isBare, isChange, needFor, isUnknown, isMaster, isOpenRow, bitsNeeded}
 use Rattle.judge.specs.Judgement.{Test, test, first, isUnused, isUnsound, unitTests, commandTests, formTests, factTests, keyTests, rulesFor, skipsGuard, capabilityTests, guardTests, pageTests, openTests, openReason}
-
--- the first reason, or the second where the first is none
-abbrev pub orElse : ℕ → ℕ → ℕ
-orElse r s = pick (eqb r 0) s r
-
--- does every test have a reason, a number that is not 0?
-abbrev pub named : List Test → Bool
-named [] = true
-named (t ∷ ts) = both (not (eqb (t .reason) 0)) (named ts)
+use Rattle.judge.specs.Order.{orElse, named, Passed, earlyReason, lateReason}
 
 else-step : (b : Bool) (r x y : ℕ) → not (eqb r 0) ≡ true → pick b r (orElse x y) ≡ orElse (pick b r x) y
 else-step true r x y h = rw (not-true (eqb r 0) h)
@@ -106,15 +98,7 @@ or-else-assoc r s t = by-cases (eqb r 0) refl
     by-cases true q = rw q
     by-cases false q = rw (q, q)
 
--- 7 to 13, and 14 and 15
-unfoldable pub earlyReason : List ℕ → List ℕ → ℕ → ℕ
-earlyReason rec c clock =
-    orElse (first (formTests (rulesFor rec c) (cdbLen (codeOf c)) c)) (first (factTests (bitsNeeded (needFor c)) rec (cdbLen (codeOf c)) c clock))
-
-unfoldable pub lateReason : List ℕ → ℕ → List ℕ → List ℕ → ℕ
-lateReason units u c token =
-    first (keyTests (rulesFor (unitAt u units) c) units u (isMaster (needFor c)) (isChange c) (cdbLen (codeOf c)) c token)
-
+-- 7 to 15, in two groups
 module _ (units : List ℕ) (u : ℕ) (c token : List ℕ) (clock : ℕ) where
   pub capability-order : orElse (earlyReason (unitAt u units) c clock) (lateReason units u c token) ≡ first (capabilityTests units u c token clock)
   unfolding capabilityTests earlyReason lateReason
@@ -186,13 +170,6 @@ unit-named units u = refl
 command-named : (c : List ℕ) → named (commandTests c) ≡ true
 unfolding commandTests
 command-named c = refl
-
--- what the tests of unit and command tell where none applies
-pub record Passed (units : List ℕ) (u : ℕ) (c : List ℕ) : Type 0 where
-  pub small : u < 8
-  pub used : unitState units u ≡ Used
-  pub known : listed (codeOf c) ≡ true
-  pub legal : legalLen (codeOf c) (length c) ≡ true
 
 module _ (units : List ℕ) (u : ℕ) (c token : List ℕ) (clock : ℕ) where
   pub capability-named : named (capabilityTests units u c token clock) ≡ true

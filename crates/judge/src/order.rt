@@ -16,7 +16,7 @@ ghost use Rattle.model.specs.Codes.{cdbLen, legalLen};
 ghost use Rattle.units.specs.Unit.{unitAt};
 ghost use Rattle.judge.specs.Command.{codeOf, isBare, isChange, needFor, isOpenRow, isMaster, bitsNeeded};
 ghost use Rattle.judge.specs.Judgement.{first, rulesFor, skipsGuard, capabilityTests, guardTests, pageTests, openReason};
-ghost use Rattle.judge.specs.OrderLaws.{orElse, earlyReason, lateReason};
+ghost use Rattle.judge.specs.Order.{orElse, earlyReason, lateReason};
 
 fn is_open_row(n: Need) -> bool
     ensures { λ r. ⌜ r ≡ isOpenRow n ⌝ }

@@ -1,6 +1,7 @@
 -- The key is asked for only where nothing earlier refuses.
 use Prim.Native.Nat.{_*_}
-use Rattle.judge.specs.OrderLaws.{earlyReason, capability-late, capability-early}
+use Rattle.judge.specs.Order.{earlyReason}
+use Rattle.judge.specs.OrderLaws.{capability-late, capability-early}
 use Rattle.wire.specs.PatchLaws.{lent-part}
 use mathlib.Core.Path.{_∙_, ap}
 use mathlib.Core.List.{List}

@@ -1,5 +1,6 @@
 -- Call by call as the definition has it; a wrapped command is long enough for its descriptor.
-use Rattle.judge.specs.OrderLaws.{cdb-fits, earlyReason}
+use Rattle.judge.specs.Order.{earlyReason}
+use Rattle.judge.specs.OrderLaws.{cdb-fits}
 use native.Mathlib.Omega.{arith}
 use borrow.Author.Needs.{needs}
 use Rattle.judge.proofs.order.early_reason.Statement.{statement}

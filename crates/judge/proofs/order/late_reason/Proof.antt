@@ -1,5 +1,6 @@
 -- Call by call as the definition has it; a wrapped command is long enough for its check value.
-use Rattle.judge.specs.OrderLaws.{cdb-fits, lateReason}
+use Rattle.judge.specs.Order.{lateReason}
+use Rattle.judge.specs.OrderLaws.{cdb-fits}
 use Rattle.wire.specs.PatchLaws.{lent-part}
 use borrow.Author.Needs.{needs}
 use Rattle.judge.proofs.order.late_reason.Statement.{statement}
