@@ -12,10 +12,10 @@ use Rattle.judge.specs.Command.{pageOf, needFor, isMaster, isChange, isOpenRow}
 use Rattle.judge.specs.Descriptor.{keyVersion}
 use Rattle.judge.specs.Checked.{behindCdb}
 use Rattle.pages.specs.Out.{newVersion, seed, agreed}
-use Rattle.calls.specs.Run.{Tables, Call, Event, Meets, Ran, ledgerOf, starts, Done, doneIn, dones}
-use Rattle.calls.specs.Sequence.{SoundTables}
-use Rattle.calls.specs.History.{KeySet, startKeys, keySet, seedExchanged, masterChanged, keyCommand, isKeyCommand, history, keySaid}
-use Rattle.calls.specs.Engineer.{isRefused, keyless-refused}
+use Rattle.runs.specs.Run.{Tables, Call, Event, Meets, Ran, ledgerOf, starts, Done, doneIn, dones}
+use Rattle.runs.specs.Sequence.{SoundTables}
+use Rattle.runs.specs.History.{KeySet, startKeys, keySet, seedExchanged, masterChanged, keyCommand, isKeyCommand, history, keySaid}
+use Rattle.runs.specs.Engineer.{isRefused, keyless-refused}
 
 -- is it a GOOD Set Key of version v at unit u?
 abbrev pub setsVersion : ℕ → ℕ → Done → Bool

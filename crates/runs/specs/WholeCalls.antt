@@ -28,14 +28,14 @@ use Rattle.judge.specs.Command.{codeOf}
 use Rattle.judge.specs.Judgement.{openReason}
 use Rattle.judge.specs.Order.{Passed}
 use Rattle.judge.specs.OrderLaws.{open-passed}
 use Rattle.calls.specs.Lent.{Lent, lent, gives, rightLengths, rightlyLent}
 use Rattle.calls.specs.Open.{rightToken, slotPlan, applyOpen, openOut}
 use Rattle.calls.specs.OpenLaws.{lengths-are, token-is}
 use Rattle.calls.specs.Close.{closeOut}
-use Rattle.calls.specs.Cases.{Opens, Closes}
-use Rattle.calls.specs.Whole.{Asked, whole, heldBy, parks, openedWhole, closedWhole}
-use Rattle.calls.specs.WholeLaws.{open-whole, close-whole}
-use Rattle.calls.specs.StepLaws.{parked-out, held-parked}
+use Rattle.runs.specs.Cases.{Opens, Closes}
+use Rattle.runs.specs.Whole.{Asked, whole, heldBy, parks, openedWhole, closedWhole}
+use Rattle.runs.specs.WholeLaws.{open-whole, close-whole}
+use Rattle.runs.specs.StepLaws.{parked-out, held-parked}
 
 -- ---- a record that is put over another, and put back
 

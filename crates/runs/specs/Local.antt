@@ -18,10 +18,10 @@ use Rattle.judge.specs.Keys.{keyFound, keyUsed}
 use Rattle.judge.specs.Judgement.{unitTests, capabilityTests, keyTests, guardTests, pageTests, openTests}
 use Rattle.pages.specs.In.{sizeOf, countOf}
 use Rattle.pages.specs.Effects.{newRecord}
 use Rattle.calls.specs.Open.{isReplied}
 use Rattle.calls.specs.Close.{closeReason}
-use Rattle.calls.specs.Whole.{Asked, Whole, whole-of, replied, obeyed, passedWhole, whole}
-use Rattle.calls.specs.WholeCases.{wholeReason, whole-cases, obeys, obeyed-here, new-full}
+use Rattle.runs.specs.Whole.{Asked, Whole, whole-of, replied, obeyed, passedWhole, whole}
+use Rattle.runs.specs.WholeCases.{wholeReason, whole-cases, obeys, obeyed-here, new-full}
 
 -- the record of the command's unit after it, by the reason and the record before
 abbrev ownRecord : List ℕ → List ℕ → ℕ → List ℕ → List ℕ

@@ -29,20 +29,20 @@ use Rattle.slots.specs.declared.SlotState.the-variants.{Open}
 use Rattle.judge.specs.Command.{codeOf}
 use Rattle.judge.specs.Judgement.{openReason}
 use Rattle.judge.specs.OrderLaws.{open-passed}
 use Rattle.calls.specs.Outcome.{out, one-answer}
 use Rattle.calls.specs.Slots.{abortOut, resetOut}
 use Rattle.calls.specs.Lent.{Lent, lent, Outcome, gives, rightlyLent, one-outcome}
 use Rattle.calls.specs.Open.{rightToken, slotPlan, passedPlan, judgedPlan, openPlan, applyOpen, openOut}
 use Rattle.calls.specs.OpenLaws.{token-is, open-h1, open-h2}
 use Rattle.calls.specs.Close.{heldPlan, closePlan, closeOut}
 use Rattle.calls.specs.CloseLaws.{is-open-state, close-h1}
-use Rattle.calls.specs.Leaves.{front-written}
-use Rattle.calls.specs.Answers.{isFinal, countIn}
-use Rattle.calls.specs.Cases.{Opens, Closes}
-use Rattle.calls.specs.Whole.{Asked, asked, whole, heldBy, parks, openedWhole, closedWhole}
-use Rattle.calls.specs.WholeLaws.{open-whole, close-whole}
-use Rattle.calls.specs.WholeCases.{whole-final, whole-written, whole-length}
-use Rattle.calls.specs.Run.{Tables, tables, Call, opens, closes, aborts, resets, event, Meets, Ledger, put, entered, vacant, held, view, toView, Agrees, done, Singly, Fits, Stepped}
+use Rattle.runs.specs.Leaves.{front-written}
+use Rattle.runs.specs.Answers.{isFinal, countIn}
+use Rattle.runs.specs.Cases.{Opens, Closes}
+use Rattle.runs.specs.Whole.{Asked, asked, whole, heldBy, parks, openedWhole, closedWhole}
+use Rattle.runs.specs.WholeLaws.{open-whole, close-whole}
+use Rattle.runs.specs.WholeCases.{whole-final, whole-written, whole-length}
+use Rattle.runs.specs.Run.{Tables, tables, Call, opens, closes, aborts, resets, event, Meets, Ledger, put, entered, vacant, held, view, toView, Agrees, done, Singly, Fits, Stepped}
 
 -- ---- an open goes one of five ways, and a close one of three
 

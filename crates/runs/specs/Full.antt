@@ -20,18 +20,18 @@ use Rattle.judge.specs.Command.{codeOf}
 use Rattle.judge.specs.Judgement.{openReason}
 use lib.Dec.{eqb, leb}
 use Rattle.choice.specs.Choice.{both, pick}
 use Rattle.calls.specs.Outcome.{out, one-answer}
 use Rattle.calls.specs.Slots.{abortOut, resetOut}
 use Rattle.calls.specs.Lent.{Lent, lent, Outcome, gives, rightLengths, rightlyLent, one-outcome}
 use Rattle.calls.specs.Open.{rightToken, slotPlan, applyOpen, openOut}
 use Rattle.calls.specs.OpenLaws.{lengths-are}
-use Rattle.calls.specs.Cases.{Opens}
-use Rattle.calls.specs.Answers.{isFinal, told-apart}
-use Rattle.calls.specs.Whole.{Asked, whole, heldBy}
-use Rattle.calls.specs.WholeCases.{whole-final}
-use Rattle.calls.specs.Run.{Tables, opens, Event, Meets, Ran, Ledger, ledgerOf, held, viewBy, view, toView, starts, Call, closes, aborts, resets, Fits}
-use Rattle.calls.specs.StepLaws.{open-by, parked-out, close-by}
-use Rattle.calls.specs.Sequence.{SoundTables, sequence}
+use Rattle.runs.specs.Cases.{Opens}
+use Rattle.runs.specs.Answers.{isFinal, told-apart}
+use Rattle.runs.specs.Whole.{Asked, whole, heldBy}
+use Rattle.runs.specs.WholeCases.{whole-final}
+use Rattle.runs.specs.Run.{Tables, opens, Event, Meets, Ran, Ledger, ledgerOf, held, viewBy, view, toView, starts, Call, closes, aborts, resets, Fits}
+use Rattle.runs.specs.StepLaws.{open-by, parked-out, close-by}
+use Rattle.runs.specs.Sequence.{SoundTables, sequence}
 
 -- the command passes: a reply of 512 bytes, a token of 16 to 64, no reason of 1 to 17, and it carries data out
 pub record Passes (units : List ℕ) (k : Asked) (clock : ℕ) (reply : List ℕ) : Type 0 where

@@ -20,11 +20,11 @@ use Rattle.pages.specs.OutLaws.{right-version}
 use Rattle.pages.specs.Effects.{attributesSet, workingKeySet, lastFlipped, nextAuth, nextGen, exchanged, changed, newRecord}
 use Rattle.pages.specs.FieldLaws.{SameWorking}
 use Rattle.pages.specs.EffectLaws.{attributes-master, attributes-next, attributes-working, key-master, key-next, key-valid, key-working, key-other-valid, key-other-working, exchanged-master, exchanged-working, exchanged-step, exchanged-next-auth, exchanged-next-generation, changed-identifier, changed-auth, changed-generation, changed-valid, changed-step, changed-next-auth, changed-next-generation}
-use Rattle.calls.specs.Answers.{isHandled}
-use Rattle.calls.specs.Whole.{Whole, obeyed, whole}
-use Rattle.calls.specs.WholeCases.{whole-cases, whole-length, Obeys, obeys, obeyed-here, obeyed-others}
-use Rattle.calls.specs.Run.{Done, Singly}
-use Rattle.calls.specs.History.{KeySet, Says, startKeys, keySet, seedExchanged, masterChanged, keyCommand, isKeyCommand, history}
+use Rattle.runs.specs.Answers.{isHandled}
+use Rattle.runs.specs.Whole.{Whole, obeyed, whole}
+use Rattle.runs.specs.WholeCases.{whole-cases, whole-length, Obeys, obeys, obeyed-here, obeyed-others}
+use Rattle.runs.specs.Run.{Done, Singly}
+use Rattle.runs.specs.History.{KeySet, Says, startKeys, keySet, seedExchanged, masterChanged, keyCommand, isKeyCommand, history}
 
 pub says-start : (rec : List ℕ) → Says (startKeys rec) rec
 says-start rec = record { name = refl; auth = refl; generation = refl; next-auth = refl; next-generation = refl; pending = refl; working = λ v h. refl }

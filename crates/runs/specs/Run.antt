@@ -13,13 +13,13 @@ use Rattle.model.specs.declared.Answer.the-variants.{Good, Parked, Run, Check, 
 use Rattle.slots.specs.Slot.{slotAt, slotStateOf}
 use Rattle.slots.specs.declared.SlotState.{SlotState}
 use Rattle.slots.specs.declared.SlotState.the-variants.{Free, Open, Unsound}
 use Rattle.calls.specs.Outcome.{out}
 use Rattle.calls.specs.Slots.{abortOut, resetOut}
 use Rattle.calls.specs.Lent.{lent, gives}
 use Rattle.calls.specs.Open.{openOut}
 use Rattle.calls.specs.Close.{closeOut}
-use Rattle.calls.specs.Answers.{isFinal, countIn}
-use Rattle.calls.specs.Whole.{Asked, whole, heldBy}
+use Rattle.runs.specs.Answers.{isFinal, countIn}
+use Rattle.runs.specs.Whole.{Asked, whole, heldBy}
 
 -- ---- the calls
 

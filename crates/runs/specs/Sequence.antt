@@ -13,10 +13,10 @@ use borrow.Author.Tests.{eqb-true, eqb-false}
 use Rattle.units.specs.Unit.{unitAt, unitState, unitStateOf}
 use Rattle.slots.specs.Slot.{slotAt}
 use Rattle.judge.specs.Judgement.{isUnsound}
-use Rattle.calls.specs.Whole.{Asked, whole}
-use Rattle.calls.specs.WholeCases.{whole-length, whole-others, whole-state}
-use Rattle.calls.specs.Run.{Tables, Event, Ran, Ledger, after, ledgerOf, View, vacant, held, damaged, view, toView, ofView, starts, Agrees, Done, doneIn, dones, Singly, finals, KeepsReply, Fits}
-use Rattle.calls.specs.StepLaws.{step}
+use Rattle.runs.specs.Whole.{Asked, whole}
+use Rattle.runs.specs.WholeCases.{whole-length, whole-others, whole-state}
+use Rattle.runs.specs.Run.{Tables, Event, Ran, Ledger, after, ledgerOf, View, vacant, held, damaged, view, toView, ofView, starts, Agrees, Done, doneIn, dones, Singly, finals, KeepsReply, Fits}
+use Rattle.runs.specs.StepLaws.{step}
 
 -- ---- the premise: tables of their sizes, every unit record sound (used or unused), every slot sound (open or free)
 

@@ -23,13 +23,13 @@ use Rattle.pages.specs.InLaws.{page-size}
 use Rattle.pages.specs.Out.{wrongList}
 use Rattle.pages.specs.Effects.{newRecord}
 use Rattle.pages.specs.EffectLaws.{new-length, new-used}
 use Rattle.calls.specs.Open.{isReplied}
 use Rattle.calls.specs.OpenLaws.{count-least}
-use Rattle.calls.specs.Cases.{pick-cases}
+use Rattle.runs.specs.Cases.{pick-cases}
 use Rattle.calls.specs.Close.{closeReason}
 use Rattle.calls.specs.CloseLaws.{close-none, list-passed}
-use Rattle.calls.specs.Answers.{isFinal, countIn}
-use Rattle.calls.specs.Whole.{Asked, Whole, whole-of, replied, obeyed, passedWhole, whole}
+use Rattle.runs.specs.Answers.{isFinal, countIn}
+use Rattle.runs.specs.Whole.{Asked, Whole, whole-of, replied, obeyed, passedWhole, whole}
 
 module _ (units : List ℕ) (k : Asked) (d : List ℕ) (clock : ℕ) where
   -- the reason that a whole command is refused for

@@ -24,15 +24,15 @@ use Rattle.judge.specs.Judgement.{openReason}
 use Rattle.judge.specs.OrderLaws.{open-passed}
 use Rattle.pages.specs.In.{inPage, sizeOf, countOf}
 use Rattle.pages.specs.InLaws.{page-size}
 use Rattle.calls.specs.Lent.{Lent, lent, gives, one-outcome}
 use Rattle.calls.specs.Open.{applyOpen, openOut}
 use Rattle.calls.specs.OpenLaws.{lengths-are, token-is, count-least}
 use Rattle.calls.specs.Close.{applyClose, closeOut}
-use Rattle.calls.specs.Cases.{Opens, open-cases, Closes, close-cases, slotReason}
-use Rattle.calls.specs.Whole.{Asked, obeyed, heldBy}
-use Rattle.calls.specs.WholeCases.{obeys, obeyed-others}
+use Rattle.runs.specs.Cases.{Opens, open-cases, Closes, close-cases, slotReason}
+use Rattle.runs.specs.Whole.{Asked, obeyed, heldBy}
+use Rattle.runs.specs.WholeCases.{obeys, obeyed-others}
 use Rattle.calls.specs.declared.opening.Opening.{Opening}
 use Rattle.calls.specs.declared.closing.Closing.{Closing}
 
 -- an open: A0 keeps the tables and all of the reply but its first count bytes, A1 all but that slot, every other answer all
 abbrev pub LeftByOpen : Lent → Lent → Answer → Type 0

@@ -22,14 +22,14 @@ use Rattle.judge.specs.Command.{codeOf, pageOf}
 use Rattle.judge.specs.Judgement.{first, openReason}
 use Rattle.judge.specs.Order.{orElse}
 use Rattle.pages.specs.In.{sizeOf, countOf}
 use Rattle.calls.specs.Lent.{Lent, rightlyLent}
 use Rattle.calls.specs.Open.{rightToken, isReplied, passedPlan, judgedPlan, openPlan, applyOpen, openOut}
 use Rattle.calls.specs.Close.{listTests, closeReason, endPlan, rejudgedPlan, heldPlan, closePlan, applyClose, closeOut}
 use Rattle.calls.specs.CloseLaws.{close-order, close-early, is-open-state}
-use Rattle.calls.specs.Cases.{Closes, slotReason}
-use Rattle.calls.specs.Whole.{Asked, whole-of, replied, obeyed, passedWhole, whole, heldBy, parks, openedWhole, closedWhole}
+use Rattle.runs.specs.Cases.{Closes, slotReason}
+use Rattle.runs.specs.Whole.{Asked, whole-of, replied, obeyed, passedWhole, whole, heldBy, parks, openedWhole, closedWhole}
 use Rattle.calls.specs.declared.opening.Opening.the-variants.{Say, Reply}
 use Rattle.calls.specs.declared.closing.Closing.the-variants.{End, Obey}
 
 -- nothing written at the front
 patch-none : (l : List ℕ) → patch l 0 [] ≡ l

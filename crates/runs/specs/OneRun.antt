@@ -9,16 +9,16 @@ use Rattle.choice.specs.Choice.{both, pick}
 use Rattle.model.specs.declared.Answer.{Answer}
 use Rattle.model.specs.declared.Answer.the-variants.{Good, Parked, H1, H3}
 use Rattle.slots.specs.Slot.{slotAt, slotStateOf, isOpen, freed, allFreed}
 use Rattle.calls.specs.Outcome.{Out, out, one-answer}
 use Rattle.calls.specs.Slots.{abortOut, resetOut}
 use Rattle.calls.specs.Lent.{Lent, lent, Outcome, gives, one-outcome}
 use Rattle.calls.specs.Open.{openPlan, applyOpen, openOut}
 use Rattle.calls.specs.Close.{closePlan, applyClose, closeOut}
-use Rattle.calls.specs.Run.{Tables, tables, Call, opens, closes, aborts, resets, Event, event, Meets, Ran}
+use Rattle.runs.specs.Run.{Tables, tables, Call, opens, closes, aborts, resets, Event, event, Meets, Ran}
 use Rattle.calls.specs.declared.opening.Opening.{Opening}
 use Rattle.calls.specs.declared.opening.Opening.the-variants.{Say, Reply, Park}
 use Rattle.calls.specs.declared.closing.Closing.{Closing}
 use Rattle.calls.specs.declared.closing.Closing.the-variants.{Keep, End, Obey}
 
 abbrev pub callsOf : List Event → List Call
 callsOf es = map (λ (e : Event). e .call) es

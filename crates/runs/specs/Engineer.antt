@@ -16,13 +16,13 @@ use Rattle.judge.specs.Command.{codeOf, needFor, isMaster, isChange, isOpenRow}
 use Rattle.judge.specs.Descriptor.{keyVersion, expiration, capTag}
 use Rattle.judge.specs.OrderLaws.{open-passed}
 use Rattle.judge.specs.Checked.{behindCdb}
 use Rattle.calls.specs.CloseLaws.{close-none}
-use Rattle.calls.specs.Answers.{isGood, isFinal}
-use Rattle.calls.specs.WholeCases.{whole-final}
-use Rattle.calls.specs.Run.{Tables, Call, Event, Meets, Ran, ledgerOf, starts, Done, doneIn}
-use Rattle.calls.specs.Sequence.{SoundTables}
-use Rattle.calls.specs.History.{keySaid}
-use Rattle.calls.specs.GoodChecked.{CheckedBy, keysBefore, good-none, answer-is, good-checked}
+use Rattle.runs.specs.Answers.{isGood, isFinal}
+use Rattle.runs.specs.WholeCases.{whole-final}
+use Rattle.runs.specs.Run.{Tables, Call, Event, Meets, Ran, ledgerOf, starts, Done, doneIn}
+use Rattle.runs.specs.Sequence.{SoundTables}
+use Rattle.runs.specs.History.{keySaid}
+use Rattle.runs.specs.GoodChecked.{CheckedBy, keysBefore, good-none, answer-is, good-checked}
 
 -- refused: CHECK CONDITION, so that neither the medium nor the crypto block gets it, and no record changes
 abbrev pub isRefused : Answer → Bool

@@ -13,8 +13,8 @@ use Rattle.units.specs.Unit.{step, identifier, authKey, genKey, nextAuthKey, ne
 use Rattle.judge.specs.Command.{codeOf, pageOf}
 use Rattle.pages.specs.Out.{newVersion, seed, agreed}
 use Rattle.pages.specs.Effects.{lastFlipped}
-use Rattle.calls.specs.Answers.{isHandled}
-use Rattle.calls.specs.Run.{Done}
+use Rattle.runs.specs.Answers.{isHandled}
+use Rattle.runs.specs.Run.{Done}
 
 pub record KeySet : Type 0 where
   pub name : List ℕ

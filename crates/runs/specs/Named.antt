@@ -29,21 +29,21 @@ use Rattle.hmac.specs.Hmac.{hmac, bySha1}
 use Rattle.pages.specs.Out.{newVersion, seed}
 use Rattle.pages.specs.In.{inPage, sizeOf, countOf}
 use Rattle.pages.specs.InLaws.{page-size}
 use Rattle.calls.specs.Lent.{Lent, lent, gives, rightlyLent, one-outcome}
 use Rattle.calls.specs.Open.{rightToken, isReplied, passedPlan, judgedPlan, openPlan, applyOpen, openOut}
 use Rattle.calls.specs.OpenLaws.{count-least, lengths-are}
 use Rattle.pages.specs.OutLaws.{right-version}
 use Rattle.pages.specs.Effects.{workingKeySet, newRecord}
 use Rattle.pages.specs.EffectLaws.{key-valid, key-working, key-differs}
-use Rattle.calls.specs.Whole.{Asked, obeyed, heldBy}
-use Rattle.calls.specs.WholeCases.{obeys, obeyed-here, used-length}
+use Rattle.runs.specs.Whole.{Asked, obeyed, heldBy}
+use Rattle.runs.specs.WholeCases.{obeys, obeyed-here, used-length}
 use Rattle.calls.specs.Close.{rejudgedPlan, heldPlan, closePlan, applyClose, closeOut}
 use Rattle.calls.specs.CloseLaws.{close-early, close-none}
-use Rattle.calls.specs.Leaves.{front-written}
-use Rattle.calls.specs.Answers.{isGood, isHandled, told-apart}
-use Rattle.calls.specs.Cases.{open-cases, Closes, close-cases, slotReason}
+use Rattle.runs.specs.Leaves.{front-written}
+use Rattle.runs.specs.Answers.{isGood, isHandled, told-apart}
+use Rattle.runs.specs.Cases.{open-cases, Closes, close-cases, slotReason}
 use Rattle.calls.specs.declared.closing.Closing.{Closing}
 use Rattle.calls.specs.declared.opening.Opening.{Opening}
 
 -- ---- refusing always: an open INQUIRY gets A2 on every used, sound unit, and every byte is kept
 
