@@ -1,11 +1,11 @@
 -- The blank record: its check, computed; and that it is the only sound record of zeros.
 use mathlib.Core.Path.{_≡_, refl, _∙_, sym, ap, ap₂}
-use mathlib.Core.Bool.{Bool, true, false}
+use mathlib.Core.Bool.{Bool, true}
 use mathlib.Core.List.{List, [], _∷_, _++_}
 use Prim.Native.Nat.{ℕ, _+_, _≤_}
 use native.Mathlib.Omega.{arith}
-use lib.ListN.{length, take, drop, replicate, length-replicate, length-drop, take-append-drop, length-take}
-use lib.Seq.{take-all, length-take-le}
+use lib.ListN.{length, take, drop, replicate, length-replicate, length-drop, take-append-drop}
+use lib.Seq.{take-all}
 use Rattle.choice.specs.Choice.{both}
 use Rattle.choice.specs.ChoiceLaws.{both-true}
 use Rattle.wire.specs.Bytes.{same, part, zeros, patch}
@@ -83,12 +83,16 @@ blank-sound l full k z =
 record-check : part 492 20 blankRecord ≡ blankCheck
 record-check = rw blank-parts refl
 
--- the test by zeros and constant is equality with the blank record
-pub blank-test : (l : List ℕ) → length l ≡ 512 → both (zeros 492 0 l) (same (part 492 20 l) blankCheck) ≡ same l blankRecord
+-- the test by constant and zeros is equality with the blank record
+blank-test : (l : List ℕ) → length l ≡ 512 → both (same (part 492 20 l) blankCheck) (zeros 492 0 l) ≡ same l blankRecord
 blank-test l full =
-    same-is (both (zeros 492 0 l) (same (part 492 20 l) blankCheck)) l blankRecord
-    (λ e. let p = both-true (zeros 492 0 l) (same (part 492 20 l) blankCheck) e in blank-only l full (p .0) (same-true (part 492 20 l) blankCheck (p .1)))
-    (λ e. rw (e, record-zeros, record-check) (same-refl blankCheck))
+    same-is (both (same (part 492 20 l) blankCheck) (zeros 492 0 l)) l blankRecord
+    (λ e. let p = both-true (same (part 492 20 l) blankCheck) (zeros 492 0 l) e in blank-only l full (p .1) (same-true (part 492 20 l) blankCheck (p .0)))
+    (λ e. rw (e, record-zeros, record-check, same-refl blankCheck))
+
+-- the constant decides whether zeros are looked for
+pub blank-where : (l c : List ℕ) (t : Bool) → length l ≡ 512 → c ≡ blankCheck → same (part 492 20 l) c ≡ t → both t (zeros 492 0 l) ≡ same l blankRecord
+blank-where l c t full ec et = ap (λ (x : Bool). both x (zeros 492 0 l)) (sym et ∙ ap (same (part 492 20 l)) ec) ∙ blank-test l full
 
 -- zeros with the constant behind them
 pub blank-made : (l : List ℕ) → l ≡ replicate 512 0 → patch l 492 blankCheck ≡ blankRecord
