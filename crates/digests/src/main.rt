@@ -50,7 +50,7 @@ fn mac_of(key: &[u8], message: &[u8], space: &mut [u8]) -> Reply {
 
 // What a line asks for, worked out in space.
 fn answer(line: &[u8], space: &mut [u8]) -> Reply {
-    let a = text::word_end(line);
+    let a = bytes::scan::find(line, 0, line.len(), b' ');
     if line.len() <= a {
         return none();
     }
@@ -58,7 +58,7 @@ fn answer(line: &[u8], space: &mut [u8]) -> Reply {
     if check::same(&line[0..a], b"hash") {
         return hash_of(rest, space);
     }
-    let b = text::word_end(rest);
+    let b = bytes::scan::find(rest, 0, rest.len(), b' ');
     if rest.len() <= b {
         return none();
     }

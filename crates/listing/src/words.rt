@@ -43,14 +43,7 @@ pub fn is_wrong(fault: Fault) -> bool {
 pub fn comment_start(line: &[u8]) -> usize
     ensures { λ r. ⌜ r ≤ length (now (line .entry)) ⌝ }
 {
-    let mut i = 0;
-    while i < line.len() {
-        if line[i] == b'#' {
-            return i;
-        }
-        i += 1;
-    }
-    i
+    bytes::scan::find(line, 0, line.len(), b'#')
 }
 
 // The first place from `at` on that holds no space, or the line's end.
@@ -73,15 +66,14 @@ pub fn word_end(line: &[u8], at: usize) -> usize
     ensures { λ r. ⌜ r ≤ length (now (line .entry)) ⌝ }
 {
     let start = word_start(line, at);
-    start + text::word_end(&line[start..])
+    bytes::scan::find(line, start, line.len(), b' ')
 }
 
 // The word that is next from `at` on; empty where there is none.
 pub fn word_at(line: &[u8], at: usize) -> &[u8] {
     let start = word_start(line, at);
-    let rest = &line[start..];
-    let n = text::word_end(rest);
-    &rest[0..n]
+    let end = bytes::scan::find(line, start, line.len(), b' ');
+    &line[start..end]
 }
 
 // ---- numbers

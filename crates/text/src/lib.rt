@@ -1,6 +1,5 @@
-// Text that the programs read and write: hex digits, and words parted by spaces.
+// Text that the programs read and write: hex digits.
 ghost use Prim.Native.Nat.{_<_, _≤_};
-ghost use lib.ListN.{length};
 
 // What unhex answers where the text is no hex or does not fit.
 pub const BAD: usize = 0xffff_ffff_ffff_ffff;
@@ -63,18 +62,4 @@ pub fn unhex(s: &[u8], out: &mut [u8], at: usize) -> usize {
         i += 1;
     }
     at + i
-}
-
-// The index of the first space of s, or s's length.
-pub fn word_end(s: &[u8]) -> usize
-    ensures { λ r. ⌜ r ≤ length (now (s .entry)) ⌝ }
-{
-    let mut i = 0;
-    while i < s.len() {
-        if s[i] == b' ' {
-            return i;
-        }
-        i += 1;
-    }
-    i
 }
