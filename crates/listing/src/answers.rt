@@ -1,10 +1,12 @@
 // What is printed for a line: the text of answers, faults and digests, put together in a lent buffer. Each function puts its text at a
-// place and answers the next; what the buffer has no room for is left out.
+// place and answers the next, as text::put does.
 use super::words::Fault;
 use model::Answer;
 use model::Sense;
-ghost use Prim.Native.Nat.{_≤_, _<_};
-ghost use lib.ListN.{length};
+use text::put;
+use text::put_digits;
+use text::put_hex;
+ghost use Prim.Native.Nat.{_≤_};
 
 // The bytes of s from a up to e, as far as it has them.
 pub fn part(s: &[u8], a: usize, e: usize) -> &[u8] {
@@ -19,71 +21,23 @@ fn least(a: usize, b: usize) -> usize
     if a < b { a } else { b }
 }
 
-fn put_byte(out: &mut [u8], at: usize, b: u8) -> usize {
-    if at < out.len() {
-        out[at] = b;
-        return at + 1;
-    }
-    at
-}
-
-fn put(out: &mut [u8], at: usize, s: &[u8]) -> usize {
-    let mut n = at;
-    let mut i = 0;
-    while i < s.len() {
-        n = put_byte(out, n, s[i]);
-        i += 1;
-    }
-    n
-}
-
-// The hex digit of a number below 16, in upper case.
-fn upper(x: u8) -> u8
-    requires { ⌜ x < 16 ⌝ }
-{
-    if x < 10 { x + 48 } else { x + 55 }
-}
-
-// The byte as two hex digits in upper case.
-fn put_upper(out: &mut [u8], at: usize, b: u8) -> usize {
-    let n = put_byte(out, at, upper(b / 16));
-    put_byte(out, n, upper(b % 16))
-}
-
-// The byte as two hex digits in lower case.
-fn put_lower(out: &mut [u8], at: usize, b: u8) -> usize {
-    let n = put_byte(out, at, text::digit(b / 16));
-    put_byte(out, n, text::digit(b % 16))
-}
-
-// The bytes as hex digits in lower case, `-` for none.
-fn put_hex(out: &mut [u8], at: usize, s: &[u8]) -> usize {
-    if s.len() == 0 {
-        return put_byte(out, at, b'-');
-    }
-    let mut n = at;
-    let mut i = 0;
-    while i < s.len() {
-        n = put_lower(out, n, s[i]);
-        i += 1;
-    }
-    n
-}
-
 fn put_decimal(out: &mut [u8], at: usize, x: u64) -> usize {
     let mut digits = [0u8; 20];
     let k = io::decimal(x, &mut digits);
     put(out, at, &digits[..k])
 }
 
+fn put_after_slash(out: &mut [u8], at: usize, b: u8) -> usize {
+    let n = put(out, at, b"/");
+    put_digits(out, n, b, b'A')
+}
+
 // Sense key, additional code and qualifier, and the reason, in decimal or `1b`.
 fn put_sense(out: &mut [u8], at: usize, sense: Sense) -> usize {
-    let n = put_byte(out, at, upper(sense.key % 16));
-    let n = put_byte(out, n, b'/');
-    let n = put_upper(out, n, sense.code);
-    let n = put_byte(out, n, b'/');
-    let n = put_upper(out, n, sense.qualifier);
-    let n = put_byte(out, n, b' ');
+    let n = put(out, at, &[text::digit(sense.key % 16, b'A')]);
+    let n = put_after_slash(out, n, sense.code);
+    let n = put_after_slash(out, n, sense.qualifier);
+    let n = put(out, n, b" ");
     if sense.reason == 0x1b {
         return put(out, n, b"1b");
     }
@@ -96,7 +50,7 @@ pub fn answer_text(out: &mut [u8], answer: Answer, reply: &[u8]) -> usize {
         Answer::Good(count) => {
             let n = put(out, 0, b"A0 00 ");
             let n = put_decimal(out, n, count as u64);
-            let n = put_byte(out, n, b' ');
+            let n = put(out, n, b" ");
             put_hex(out, n, part(reply, 0, count as usize))
         }
         Answer::Parked(slot) => {
@@ -145,8 +99,8 @@ pub fn fault_text(out: &mut [u8], n: u64, fault: Fault) -> usize {
 pub fn state_text(out: &mut [u8], units: &[u8], slots: &[u8], reply: &[u8]) -> usize {
     let n = put(out, 0, b"state ");
     let n = put_hex(out, n, &sha1::hash(units));
-    let n = put_byte(out, n, b' ');
+    let n = put(out, n, b" ");
     let n = put_hex(out, n, &sha1::hash(slots));
-    let n = put_byte(out, n, b' ');
+    let n = put(out, n, b" ");
     put_hex(out, n, &sha1::hash(reply))
 }

@@ -78,20 +78,10 @@ pub fn word_at(line: &[u8], at: usize) -> &[u8] {
 
 // ---- numbers
 
-// The value of a decimal digit, or 10.
-fn digit(c: u8) -> u64
-    ensures { λ r. ⌜ r ≤ 10 ⌝ }
-{
-    match c {
-        48..=57 => (c - 48) as u64,
-        _ => 10,
-    }
-}
-
 fn all_digits(word: &[u8]) -> bool {
     let mut i = 0;
     while i < word.len() {
-        if digit(word[i]) == 10 {
+        if 9 < text::value(word[i]) {
             return false;
         }
         i += 1;
@@ -112,7 +102,7 @@ fn value_of(word: &[u8], most: u64) -> Decimal
     let mut value: u64 = 0;
     let mut i = 0;
     while i < word.len() {
-        let d = digit(word[i]);
+        let d = text::value(word[i]) as u64;
         if most / 10 < value {
             return Decimal {
                 value: 0,

@@ -1,17 +1,16 @@
--- The place to store at stays within the buffer, whose length stays.
+-- The loop goes through the pairs of digits; the lent buffer keeps its length.
 use mathlib.Core.Path.{_≡_}
 use Prim.Native.Nat.{_≤_, _-_, _/_}
-use native.Mathlib.Omega.{arith}
-use lib.ListN.{length, length-set}
+use lib.ListN.{length}
 use borrow.Author.Needs.{needs}
 use Rattle.text.proofs.unhex.Statement.{statement}
 use Rattle.text.proofs.unhex.Tie as tie
 
 abbrev Inv-loop : tie.InvT-loop
-Inv-loop s out₀ at i₀ out i = (i ≤ length s / 2) × (length out ≡ length out₀) × (at ≤ length out₀) × (length s / 2 ≤ length out₀ - at)
+Inv-loop s out₀ at n₀ i₀ out n i = (i ≤ length s / 2) × (length out ≡ length out₀)
 
 abbrev μ-loop : tie.MeasureT-loop
-μ-loop s out₀ at i₀ out i = length s / 2 - i
+μ-loop s out₀ at n₀ i₀ out n i = length s / 2 - i
 
 shared-slice-read-if2 : tie.Need-shared-slice-read-if2 Inv-loop μ-loop
 shared-slice-read-if2 c = search needs
@@ -21,15 +20,6 @@ returns c = search needs
 
 returns-2 : tie.Need-returns-2 Inv-loop μ-loop
 returns-2 c = search needs
-
-returns-3 : tie.Need-returns-3 Inv-loop μ-loop
-returns-3 c = search needs
-
-sub-if6 : tie.Need-sub-if6 Inv-loop μ-loop
-sub-if6 c = search needs
-
-returns-4 : tie.Need-returns-4 Inv-loop μ-loop
-returns-4 c = search needs
 
 loop-holds : tie.Need-loop-holds Inv-loop μ-loop
 loop-holds c = search needs
@@ -58,20 +48,20 @@ value-requires-2 c κs = search needs
 same-length : tie.Need-same-length Inv-loop μ-loop
 same-length c = search needs
 
-returns-5 : tie.Need-returns-5 Inv-loop μ-loop
-returns-5 c = search needs
+returns-3 : tie.Need-returns-3 Inv-loop μ-loop
+returns-3 c = search needs
 
-mul-out : tie.Need-mul-out Inv-loop μ-loop
-mul-out c = search needs
+mul-t28 : tie.Need-mul-t28 Inv-loop μ-loop
+mul-t28 c = search needs
 
-add-out : tie.Need-add-out Inv-loop μ-loop
-add-out c = search needs
+add-t30 : tie.Need-add-t30 Inv-loop μ-loop
+add-t30 c = search needs
 
-add-out-2 : tie.Need-add-out-2 Inv-loop μ-loop
-add-out-2 c = search needs
+slice-aggregate-put : tie.Need-slice-aggregate-put Inv-loop μ-loop
+slice-aggregate-put c = search needs
 
-slice-write-out : tie.Need-slice-write-out Inv-loop μ-loop
-slice-write-out c = search needs
+put-requires : tie.Need-put-requires Inv-loop μ-loop
+put-requires c κs = search needs
 
 add-i : tie.Need-add-i Inv-loop μ-loop
 add-i c = search needs
@@ -80,16 +70,13 @@ loop-less : tie.Need-loop-less Inv-loop μ-loop
 loop-less c = search needs
 
 loop-again : tie.Need-loop-again Inv-loop μ-loop
-loop-again c = (omega arith, simp length-set (omega arith), omega arith, omega arith)
-
-add-result : tie.Need-add-result Inv-loop μ-loop
-add-result c = search needs
+loop-again c = search needs
 
 same-length-2 : tie.Need-same-length-2 Inv-loop μ-loop
 same-length-2 c = search needs
 
-returns-6 : tie.Need-returns-6 Inv-loop μ-loop
-returns-6 c = search needs
+returns-4 : tie.Need-returns-4 Inv-loop μ-loop
+returns-4 c = search needs
 
 pub unhex-spec : {M : Type 1} → statement M
 unhex-spec =
@@ -100,9 +87,6 @@ unhex-spec =
     shared-slice-read-if2
     returns
     returns-2
-    returns-3
-    sub-if6
-    returns-4
     loop-holds
     mul-value
     shared-slice-read-value
@@ -112,14 +96,13 @@ unhex-spec =
     shared-slice-read-value-2
     value-requires-2
     same-length
-    returns-5
-    mul-out
-    add-out
-    add-out-2
-    slice-write-out
+    returns-3
+    mul-t28
+    add-t30
+    slice-aggregate-put
+    put-requires
     add-i
     loop-less
     loop-again
-    add-result
     same-length-2
-    returns-6)
+    returns-4)

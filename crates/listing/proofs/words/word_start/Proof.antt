@@ -1,13 +1,10 @@
-use mathlib.Core.Path.{_≡_}
-use Prim.Native.Nat.{ℕ, _+_, _-_, _*_, _/_, _%_, _≤_, _<_}
+-- What is left of the line falls; past its end nothing is read.
+use Prim.Native.Nat.{_-_}
 use Prim.{Unit}
-use native.Mathlib.Omega.{arith}
-use lib.ListN.{length, length-set}
+use lib.ListN.{length}
 use borrow.Author.Needs.{needs}
 use Rattle.listing.proofs.words.word_start.Statement.{statement}
 use Rattle.listing.proofs.words.word_start.Tie as tie
-use Rattle.listing.proofs.words.word_start.Reads as reads
-use Rattle.listing.proofs.words.word_start.Lts as lts
 
 abbrev Inv-loop : tie.InvT-loop
 Inv-loop line at i₀ i = Unit
@@ -15,31 +12,24 @@ Inv-loop line at i₀ i = Unit
 abbrev μ-loop : tie.MeasureT-loop
 μ-loop line at i₀ i = length line - i
 
--- src/words.rt:60:5
 loop-holds : tie.Need-loop-holds Inv-loop μ-loop
 loop-holds c = search needs
 
--- src/words.rt:61:12
 shared-slice-read-if1 : tie.Need-shared-slice-read-if1 Inv-loop μ-loop
 shared-slice-read-if1 c = search needs
 
--- src/words.rt:62:13
 add-i : tie.Need-add-i Inv-loop μ-loop
 add-i c = search needs
 
--- src/words.rt:60:5
 loop-less : tie.Need-loop-less Inv-loop μ-loop
 loop-less c = search needs
 
--- src/words.rt:60:5
 loop-again : tie.Need-loop-again Inv-loop μ-loop
 loop-again c = search needs
 
--- src/words.rt:64:13
 returns : tie.Need-returns Inv-loop μ-loop
 returns c = search needs
 
--- src/words.rt:56:1
 returns-2 : tie.Need-returns-2 Inv-loop μ-loop
 returns-2 c = search needs
 
