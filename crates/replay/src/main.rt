@@ -1,6 +1,5 @@
 // Replays a listing of calls: reads it from standard input, makes each call on tables of its own and prints an answer a line. At the
 // start there are eight unused units, sixteen free slots and a reply of zeros. Lines of up to 4,096 bytes; listings of any length.
-use libc::STDIN_FILENO;
 use libc::STDOUT_FILENO;
 use listing::Call;
 use listing::Fault;
@@ -39,18 +38,7 @@ fn build(units: &mut [u8], unit: UnitNo, method: u32, tag: u32, space: &[u8]) ->
     calls::build(units, unit, method, tag, &identifier, &auth_key, &gen_key)
 }
 
-// Lays the bytes into a table from `at` on, where they end within it.
-fn lay(table: &mut [u8], at: usize, bytes: &[u8]) {
-    if table.len() < at {
-        return;
-    }
-    if table.len() - at < bytes.len() {
-        return;
-    }
-    wire::put(table, at, bytes);
-}
-
-// Damage.
+// Damage: puts the bytes into a table, where they end within it, and answers as text::put does.
 fn poke(
     table: Table,
     units: &mut [u8],
@@ -58,11 +46,11 @@ fn poke(
     reply: &mut [u8],
     at: usize,
     bytes: &[u8],
-) {
+) -> usize {
     match table {
-        Table::Units => lay(units, at, bytes),
-        Table::Slots => lay(slots, at, bytes),
-        Table::Reply => lay(reply, at, bytes),
+        Table::Units => text::put(units, at, bytes),
+        Table::Slots => text::put(slots, at, bytes),
+        Table::Reply => text::put(reply, at, bytes),
     }
 }
 
@@ -146,27 +134,17 @@ fn obey(
     }
 }
 
-// Puts b at n where there is room, and answers the next place, or one past the buffer's end.
-fn put(line: &mut [u8], n: usize, b: u8) -> usize {
-    if n < line.len() {
-        line[n] = b;
-        n + 1
-    } else {
-        text::BAD
-    }
-}
-
 // Prints the first n bytes of out as a line; no bytes, no line.
 fn print(out: &mut [u8], n: usize) {
     if n == 0 {
         return;
     }
-    let end = put(out, n, b'\n');
+    let end = text::put(out, n, b"\n");
     io::write_all(STDOUT_FILENO, listing::part(&out[..], 0, end));
 }
 
 // Obeys line n, whose text is words.
-fn obey_line(words: &[u8], n: u64, units: &mut [u8], slots: &mut [u8], reply: &mut [u8]) {
+fn obey_words(words: &[u8], n: u64, units: &mut [u8], slots: &mut [u8], reply: &mut [u8]) {
     let mut space = [0u8; 4096];
     let mut out = [0u8; 2048];
     let call = listing::read(words, &mut space);
@@ -182,112 +160,38 @@ fn too_long(n: u64) {
 
 // ---- the listing
 
-// How far the listing has come: how many lines it has had, and how many bytes of the next. A line that is too long has more bytes than
-// its buffer.
-struct Begun {
-    lines: u64,
+// Obeys line n, which has `used` bytes.
+fn obey_line(
+    line: &[u8],
     used: usize,
+    n: u64,
+    units: &mut [u8],
+    slots: &mut [u8],
+    reply: &mut [u8],
+) {
+    if used <= line.len() {
+        obey_words(&line[0..used], n, units, slots, reply);
+    } else {
+        too_long(n);
+    }
 }
 
 fn one_more(n: u64) -> u64 {
     if n < u64::MAX { n + 1 } else { n }
 }
 
-// Obeys the line whose bytes are all there.
-fn end_line(
-    line: &[u8],
-    begun: Begun,
-    units: &mut [u8],
-    slots: &mut [u8],
-    reply: &mut [u8],
-) -> Begun {
-    let n = one_more(begun.lines);
-    let end = begun.used;
-    if end <= line.len() {
-        obey_line(&line[0..end], n, units, slots, reply);
-    } else {
-        too_long(n);
+// Obeys every line of standard input.
+fn run(line: &mut [u8], chunk: &mut [u8], units: &mut [u8], slots: &mut [u8], reply: &mut [u8]) {
+    let mut input = text::at_start();
+    let mut n = 0;
+    while 0 < input.left {
+        let next = text::next_line(line, chunk, input);
+        input = next.input;
+        if next.found {
+            n = one_more(n);
+            obey_line(line, next.used, n, units, slots, reply);
+        }
     }
-    Begun { lines: n, used: 0 }
-}
-
-fn take_byte(
-    line: &mut [u8],
-    begun: Begun,
-    b: u8,
-    units: &mut [u8],
-    slots: &mut [u8],
-    reply: &mut [u8],
-) -> Begun {
-    if b == b'\n' {
-        return end_line(line, begun, units, slots, reply);
-    }
-    Begun {
-        lines: begun.lines,
-        used: put(line, begun.used, b),
-    }
-}
-
-// Takes a chunk of input into the line so far, and obeys each line that ends in it.
-fn take_chunk(
-    line: &mut [u8],
-    begun: Begun,
-    chunk: &[u8],
-    units: &mut [u8],
-    slots: &mut [u8],
-    reply: &mut [u8],
-) -> Begun {
-    let mut now_begun = begun;
-    let mut i = 0;
-    while i < chunk.len() {
-        now_begun = take_byte(line, now_begun, chunk[i], units, slots, reply);
-        i += 1;
-    }
-    now_begun
-}
-
-// A read, and how far the listing came with it; the input has ended where nothing came.
-struct Step {
-    more: bool,
-    begun: Begun,
-}
-
-fn turn(
-    line: &mut [u8],
-    begun: Begun,
-    units: &mut [u8],
-    slots: &mut [u8],
-    reply: &mut [u8],
-) -> Step {
-    let mut chunk = io::buffer();
-    let got = libc::read(STDIN_FILENO, &mut chunk);
-    let n = io::count(got, &chunk);
-    if n == 0 {
-        return Step { more: false, begun };
-    }
-    let begun = take_chunk(line, begun, &chunk[0..n], units, slots, reply);
-    Step { more: true, begun }
-}
-
-// The turns that are left after one: none once the input has ended.
-fn left(turns: u64, more: bool) -> u64
-    requires { ⌜ 0 < turns ⌝ }
-    ensures { λ r. ⌜ r < turns ⌝ }
-{
-    if more { turns - 1 } else { 0 }
-}
-
-// Obeys every whole line, and hands back how far the listing came. A proved loop has to end, and nothing says that the input does: so it
-// counts its turns down, from a number that no run uses up.
-fn run(line: &mut [u8], units: &mut [u8], slots: &mut [u8], reply: &mut [u8]) -> Begun {
-    let mut turns = u64::MAX;
-    let mut begun = Begun { lines: 0, used: 0 };
-    while 0 < turns {
-        let t = turn(line, begun, units, slots, reply);
-        begun = t.begun;
-        turns = left(turns, t.more);
-    }
-    begun
 }
 
 // Makes every record of a table blank: an unused unit, a free slot.
@@ -303,13 +207,11 @@ fn make_fresh(table: &mut [u8]) {
 
 fn main() {
     let mut line = [0u8; 4096];
+    let mut chunk = io::buffer();
     let mut units = [0u8; 4096];
     let mut slots = [0u8; 8192];
     let mut reply = [0u8; 512];
     make_fresh(&mut units);
     make_fresh(&mut slots);
-    let begun = run(&mut line, &mut units, &mut slots, &mut reply);
-    if begun.used != 0 {
-        end_line(&line, begun, &mut units, &mut slots, &mut reply);
-    }
+    run(&mut line, &mut chunk, &mut units, &mut slots, &mut reply);
 }

@@ -1,4 +1,10 @@
-// Text that the programs read and write: bytes and hex digits put into a lent buffer, and hex read.
+// Text that the programs read and write: bytes and hex digits put into a lent buffer, hex read, and the lines of standard input.
+mod lines;
+
+pub use lines::Input;
+pub use lines::Line;
+pub use lines::at_start;
+pub use lines::next_line;
 ghost use mathlib.Core.Path.{_≡_};
 ghost use Prim.Native.Nat.{_+_, _<_, _≤_};
 ghost use lib.ListN.{length};

@@ -1,24 +1,28 @@
--- The turns that are left fall; the lent buffers keep their lengths.
+-- What is left of the input falls and what is to be taken stays within the chunk; the lent buffers keep their lengths.
 use mathlib.Core.Path.{_≡_}
+use Prim.Native.Nat.{_≤_}
 use lib.ListN.{length}
 use borrow.Author.Needs.{needs}
 use Rattle.digests.proofs.run.Statement.{statement}
 use Rattle.digests.proofs.run.Tie as tie
 
 abbrev Inv-loop : tie.InvT-loop
-Inv-loop line₀ space₀ turns₀ used₀ line space turns used = (length line ≡ length line₀) × (length space ≡ length space₀)
+Inv-loop line₀ chunk₀ space₀ input₀ line chunk space input = (input .next ≤ input .end) × (input .end ≤ length chunk) × (length line ≡ length line₀) × (length chunk ≡ length chunk₀) × (length space ≡ length space₀)
 
 abbrev μ-loop : tie.MeasureT-loop
-μ-loop line₀ space₀ turns₀ used₀ line space turns used = turns
+μ-loop line₀ chunk₀ space₀ input₀ line chunk space input = input .left
+
+at-start-requires : tie.Need-at-start-requires Inv-loop μ-loop
+at-start-requires c κs = search needs
 
 loop-holds : tie.Need-loop-holds Inv-loop μ-loop
 loop-holds c = search needs
 
-turn-requires : tie.Need-turn-requires Inv-loop μ-loop
-turn-requires c κs = search needs
+next-line-requires : tie.Need-next-line-requires Inv-loop μ-loop
+next-line-requires c κs = search needs
 
-left-requires : tie.Need-left-requires Inv-loop μ-loop
-left-requires c κs = search needs
+answer-line-requires : tie.Need-answer-line-requires Inv-loop μ-loop
+answer-line-requires c κs = search needs
 
 loop-less : tie.Need-loop-less Inv-loop μ-loop
 loop-less c = search needs
@@ -26,11 +30,20 @@ loop-less c = search needs
 loop-again : tie.Need-loop-again Inv-loop μ-loop
 loop-again c = search needs
 
+loop-less-2 : tie.Need-loop-less-2 Inv-loop μ-loop
+loop-less-2 c = search needs
+
+loop-again-2 : tie.Need-loop-again-2 Inv-loop μ-loop
+loop-again-2 c = search needs
+
 same-length : tie.Need-same-length Inv-loop μ-loop
 same-length c = search needs
 
 same-length-2 : tie.Need-same-length-2 Inv-loop μ-loop
 same-length-2 c = search needs
+
+same-length-3 : tie.Need-same-length-3 Inv-loop μ-loop
+same-length-3 c = search needs
 
 returns : tie.Need-returns Inv-loop μ-loop
 returns c = search needs
@@ -41,11 +54,15 @@ run-spec =
     (tie.spec
     Inv-loop
     μ-loop
+    at-start-requires
     loop-holds
-    turn-requires
-    left-requires
+    next-line-requires
+    answer-line-requires
     loop-less
     loop-again
+    loop-less-2
+    loop-again-2
     same-length
     same-length-2
+    same-length-3
     returns)

@@ -1,58 +1,59 @@
+-- What is left of the input falls and what is to be taken stays within the chunk; the lent buffers keep their lengths.
 use mathlib.Core.Path.{_≡_}
-use Prim.Native.Nat.{ℕ, _+_, _-_, _*_, _/_, _%_, _≤_, _<_}
-use native.Mathlib.Omega.{arith}
-use lib.ListN.{length, length-set}
+use Prim.Native.Nat.{_≤_}
+use lib.ListN.{length}
 use borrow.Author.Needs.{needs}
 use Rattle.replay.proofs.run.Statement.{statement}
 use Rattle.replay.proofs.run.Tie as tie
-use Rattle.replay.proofs.run.Reads as reads
-use Rattle.replay.proofs.run.Lts as lts
-use Rattle.replay.proofs.left.Reads as left-reads
-use Rattle.replay.proofs.turn.Reads as turn-reads
 
 abbrev Inv-loop : tie.InvT-loop
-Inv-loop line₀ units₀ slots₀ reply₀ turns₀ begun₀ line units slots reply turns begun = (length line ≡ length line₀) × (length units ≡ length units₀) × (length slots ≡ length slots₀) × (length reply ≡ length reply₀)
+Inv-loop line₀ chunk₀ units₀ slots₀ reply₀ input₀ n₀ line chunk units slots reply input n = (input .next ≤ input .end) × (input .end ≤ length chunk) × (length line ≡ length line₀) × (length chunk ≡ length chunk₀) × (length units ≡ length units₀) × (length slots ≡ length slots₀) × (length reply ≡ length reply₀)
 
 abbrev μ-loop : tie.MeasureT-loop
-μ-loop line₀ units₀ slots₀ reply₀ turns₀ begun₀ line units slots reply turns begun = turns
+μ-loop line₀ chunk₀ units₀ slots₀ reply₀ input₀ n₀ line chunk units slots reply input n = input .left
 
--- src/main.rt:259:5
+at-start-requires : tie.Need-at-start-requires Inv-loop μ-loop
+at-start-requires c κs = search needs
+
 loop-holds : tie.Need-loop-holds Inv-loop μ-loop
 loop-holds c = search needs
 
--- src/main.rt:260:13
-turn-requires : tie.Need-turn-requires Inv-loop μ-loop
-turn-requires c κs = search needs
+next-line-requires : tie.Need-next-line-requires Inv-loop μ-loop
+next-line-requires c κs = search needs
 
--- src/main.rt:262:9
-left-requires : tie.Need-left-requires Inv-loop μ-loop
-left-requires c κs = search needs
+one-more-requires : tie.Need-one-more-requires Inv-loop μ-loop
+one-more-requires c κs = search needs
 
--- src/main.rt:259:5
+obey-line-requires : tie.Need-obey-line-requires Inv-loop μ-loop
+obey-line-requires c κs = search needs
+
 loop-less : tie.Need-loop-less Inv-loop μ-loop
 loop-less c = search needs
 
--- src/main.rt:259:5
 loop-again : tie.Need-loop-again Inv-loop μ-loop
 loop-again c = search needs
 
--- src/main.rt:256:1
+loop-less-2 : tie.Need-loop-less-2 Inv-loop μ-loop
+loop-less-2 c = search needs
+
+loop-again-2 : tie.Need-loop-again-2 Inv-loop μ-loop
+loop-again-2 c = search needs
+
 same-length : tie.Need-same-length Inv-loop μ-loop
 same-length c = search needs
 
--- src/main.rt:256:1
 same-length-2 : tie.Need-same-length-2 Inv-loop μ-loop
 same-length-2 c = search needs
 
--- src/main.rt:256:1
 same-length-3 : tie.Need-same-length-3 Inv-loop μ-loop
 same-length-3 c = search needs
 
--- src/main.rt:256:1
 same-length-4 : tie.Need-same-length-4 Inv-loop μ-loop
 same-length-4 c = search needs
 
--- src/main.rt:256:1
+same-length-5 : tie.Need-same-length-5 Inv-loop μ-loop
+same-length-5 c = search needs
+
 returns : tie.Need-returns Inv-loop μ-loop
 returns c = search needs
 
@@ -62,13 +63,18 @@ run-spec =
     (tie.spec
     Inv-loop
     μ-loop
+    at-start-requires
     loop-holds
-    turn-requires
-    left-requires
+    next-line-requires
+    one-more-requires
+    obey-line-requires
     loop-less
     loop-again
+    loop-less-2
+    loop-again-2
     same-length
     same-length-2
     same-length-3
     same-length-4
+    same-length-5
     returns)
