@@ -7,34 +7,19 @@ use listing::Table;
 use model::Answer;
 use model::SlotNo;
 use model::UnitNo;
-ghost use Prim.Native.Nat.{_<_};
+ghost use Prim.Native.Nat.{_≤_};
+ghost use lib.ListN.{length};
 
 // ---- the calls
 
-// The 16 bytes at the start of s.
-fn bytes16(s: &[u8]) -> [u8; 16] {
-    let mut r = [0u8; 16];
-    for i in 0..16 {
-        r[i] = wire::at(s, i);
-    }
-    r
-}
-
-// The 20 bytes of s from a on.
-fn bytes20(s: &[u8], a: usize) -> [u8; 20]
-    requires { ⌜ a < 4096 ⌝ }
+// Space starts with the identifier and the two keys.
+fn build(units: &mut [u8], unit: UnitNo, method: u32, tag: u32, space: &[u8]) -> Answer
+    requires { ⌜ 56 ≤ length (now space) ⌝ }
 {
-    let mut r = [0u8; 20];
-    for i in 0..20 {
-        r[i] = wire::at(s, a + i);
-    }
-    r
-}
-
-fn build(units: &mut [u8], unit: UnitNo, method: u32, tag: u32, space: &[u8]) -> Answer {
-    let identifier = bytes16(space);
-    let auth_key = bytes20(space, 16);
-    let gen_key = bytes20(space, 36);
+    let mut identifier = [0u8; 16];
+    wire::put(&mut identifier, 0, &space[0..16]);
+    let auth_key = wire::bytes20(space, 16);
+    let gen_key = wire::bytes20(space, 36);
     calls::build(units, unit, method, tag, &identifier, &auth_key, &gen_key)
 }
 
@@ -95,7 +80,9 @@ fn obey(
     reply: &mut [u8],
     space: &[u8],
     out: &mut [u8],
-) -> usize {
+) -> usize
+    requires { ⌜ 56 ≤ length (now space) ⌝ }
+{
     match call {
         Call::Blank => 0,
         Call::Build { unit, method, tag } => {
