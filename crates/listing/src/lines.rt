@@ -52,6 +52,15 @@ pub enum Call {
     Wrong(Fault),
 }
 
+// The call of a line whose words were all read, or the line's fault.
+fn asked(line: &[u8], r: Reading, call: Call) -> Call {
+    let fault = end_fault(line, r);
+    if is_wrong(fault) {
+        return Call::Wrong(fault);
+    }
+    call
+}
+
 fn read_build(line: &[u8], r: Reading, space: &mut [u8]) -> Call {
     let unit = take_small(line, r);
     let after_unit = unit.next;
@@ -62,15 +71,12 @@ fn read_build(line: &[u8], r: Reading, space: &mut [u8]) -> Call {
     let identifier = take_exactly(line, after_tag, space, 16, Fault::IdentifierLength);
     let auth_key = take_exactly(line, identifier, space, 20, Fault::KeyLength);
     let gen_key = take_exactly(line, auth_key, space, 20, Fault::KeyLength);
-    let fault = end_fault(line, gen_key);
-    if is_wrong(fault) {
-        return Call::Wrong(fault);
-    }
-    Call::Build {
+    let call = Call::Build {
         unit: UnitNo(unit.value),
         method: method.value,
         tag: tag.value,
-    }
+    };
+    asked(line, gen_key, call)
 }
 
 fn read_open(line: &[u8], r: Reading, space: &mut [u8]) -> Call {
@@ -80,16 +86,13 @@ fn read_open(line: &[u8], r: Reading, space: &mut [u8]) -> Call {
     let after_clock = clock.next;
     let command = take_bytes(line, after_clock, space);
     let token = take_bytes(line, command, space);
-    let fault = end_fault(line, token);
-    if is_wrong(fault) {
-        return Call::Wrong(fault);
-    }
-    Call::Open {
+    let call = Call::Open {
         unit: UnitNo(unit.value),
         clock: clock.value,
         command: command.used,
         token: token.used,
-    }
+    };
+    asked(line, token, call)
 }
 
 fn read_close(line: &[u8], r: Reading, space: &mut [u8]) -> Call {
@@ -98,34 +101,18 @@ fn read_close(line: &[u8], r: Reading, space: &mut [u8]) -> Call {
     let clock = take_number(line, after_slot, u64::MAX);
     let after_clock = clock.next;
     let list = take_bytes(line, after_clock, space);
-    let fault = end_fault(line, list);
-    if is_wrong(fault) {
-        return Call::Wrong(fault);
-    }
-    Call::Close {
+    let call = Call::Close {
         slot: SlotNo(slot.value),
         clock: clock.value,
         list: list.used,
-    }
+    };
+    asked(line, list, call)
 }
 
 fn read_abort(line: &[u8], r: Reading) -> Call {
     let slot = take_small(line, r);
     let after_slot = slot.next;
-    let fault = end_fault(line, after_slot);
-    if is_wrong(fault) {
-        return Call::Wrong(fault);
-    }
-    Call::Abort(SlotNo(slot.value))
-}
-
-// A line that is one word, and asks for the call.
-fn read_alone(line: &[u8], r: Reading, call: Call) -> Call {
-    let fault = end_fault(line, r);
-    if is_wrong(fault) {
-        return Call::Wrong(fault);
-    }
-    call
+    asked(line, after_slot, Call::Abort(SlotNo(slot.value)))
 }
 
 // The table that the next word names.
@@ -206,15 +193,12 @@ fn read_poke(line: &[u8], r: Reading, space: &mut [u8]) -> Call {
     let after_place = place.next;
     let at = place.value as usize;
     let bytes = placed(take_bytes(line, after_place, space), at, table_len(table));
-    let fault = end_fault(line, bytes);
-    if is_wrong(fault) {
-        return Call::Wrong(fault);
-    }
-    Call::Poke {
+    let call = Call::Poke {
         table,
         at,
         bytes: bytes.used,
-    }
+    };
+    asked(line, bytes, call)
 }
 
 // The call that the line asks for. Its byte strings are laid into space, which has room for those of any line that is not too long.
@@ -243,13 +227,13 @@ pub fn read(line: &[u8], space: &mut [u8]) -> Call {
         return read_abort(words, r);
     }
     if check::same(first, b"reset") {
-        return read_alone(words, r, Call::Reset);
+        return asked(words, r, Call::Reset);
     }
     if check::same(first, b"poke") {
         return read_poke(words, r, space);
     }
     if check::same(first, b"state") {
-        return read_alone(words, r, Call::State);
+        return asked(words, r, Call::State);
     }
     Call::Wrong(Fault::UnknownWord)
 }
