@@ -9,8 +9,8 @@ use model::Need;
 use model::UnitNo;
 ghost use mathlib.Core.Path.{_≡_};
 ghost use mathlib.Core.Bool.{true};
-ghost use mathlib.Core.List.{_++_};
-ghost use Prim.Native.Nat.{_+_, _≤_, _<_};
+ghost use mathlib.Core.List.{List, _++_};
+ghost use Prim.Native.Nat.{ℕ, _+_, _≤_, _<_};
 ghost use lib.ListN.{length};
 ghost use Rattle.model.specs.Codes.{cdbLen, legalLen};
 ghost use Rattle.units.specs.Unit.{unitAt};
@@ -77,12 +77,12 @@ fn is_change(command: &[u8]) -> bool
     choice::and(code == 0xB5, page == 0x0015)
 }
 
-// Does CAPKEY rule?
-fn rules_for(rec: &[u8], command: &[u8]) -> bool
-    ensures { λ r. ⌜ r ≡ rulesFor (now (rec .entry)) (now (command .entry)) ⌝ }
+// Does CAPKEY rule, for a command that needs this? What a command needs is looked up once and handed on.
+fn rules_for(rec: &[u8], need: Need) -> bool
+    ensures { λ r. ⌜ ((c : List ℕ) → need ≡ needFor c → r ≡ rulesFor (now (rec .entry)) c) ⌝ }
 {
     let method = wire::be16(rec, 4);
-    let master = is_master(need_for(command));
+    let master = is_master(need);
     choice::or(method == 1, master)
 }
 
@@ -94,55 +94,63 @@ fn or_else(r: u8, s: u8) -> u8
 }
 
 // Reasons 7 to 13, or 0, of a wrapped command.
-fn early_reason(rec: &[u8], command: &[u8], clock: u64) -> u8
-    requires { ⌜ (length (now rec) ≡ 512) × (cdbLen (codeOf (now command)) + 78 ≤ length (now command)) ⌝ }
+fn early_reason(rec: &[u8], command: &[u8], need: Need, clock: u64) -> u8
+    requires { ⌜ (length (now rec) ≡ 512) × (cdbLen (codeOf (now command)) + 78 ≤ length (now command)) × (need ≡ needFor (now command)) ⌝ }
     ensures { λ r. ⌜ r ≡ earlyReason (now (rec .entry)) (now (command .entry)) clock ⌝ }
 {
     let code = wire::at(command, 0);
     let a = model::cdb_len(code) as usize;
-    let rules = rules_for(rec, command);
-    let needed = bits_needed(need_for(command));
+    let rules = rules_for(rec, need);
+    let needed = bits_needed(need);
     let form = form_reason(rules, command, a);
     let fact = fact_reason(needed, rec, command, a, clock);
     or_else(form, fact)
 }
 
 // Reasons 14 and 15, or 0, of a wrapped command.
-fn late_reason(units: &[u8], unit: UnitNo, command: &[u8], token: &[u8]) -> u8
-    requires { ⌜ (length (now units) ≡ 4096) × (unit .0 < 8) × (cdbLen (codeOf (now command)) + 78 ≤ length (now command)) ⌝ }
+fn late_reason(units: &[u8], unit: UnitNo, command: &[u8], need: Need, token: &[u8]) -> u8
+    requires { ⌜ (length (now units) ≡ 4096) × (unit .0 < 8) × (cdbLen (codeOf (now command)) + 78 ≤ length (now command)) × (need ≡ needFor (now command)) ⌝ }
     ensures { λ r. ⌜ r ≡ lateReason (now (units .entry)) (unit .0) (now (command .entry)) (now (token .entry)) ⌝ }
 {
     let place = unit.0 as usize * 512;
     let end = place + 512;
     let code = wire::at(command, 0);
     let a = model::cdb_len(code) as usize;
-    let rules = rules_for(&units[place..end], command);
-    let master = is_master(need_for(command));
+    let rules = rules_for(&units[place..end], need);
+    let master = is_master(need);
     let change = is_change(command);
     key_reason(rules, units, unit, master, change, a, command, token)
 }
 
 // Reasons 7 to 15, or 0, of a wrapped command. Nothing is hashed where 7 to 13 refuse.
-fn capability_reason(units: &[u8], unit: UnitNo, command: &[u8], token: &[u8], clock: u64) -> u8
-    requires { ⌜ (length (now units) ≡ 4096) × (unit .0 < 8) × (cdbLen (codeOf (now command)) + 78 ≤ length (now command)) ⌝ }
+fn capability_reason(
+    units: &[u8],
+    unit: UnitNo,
+    command: &[u8],
+    need: Need,
+    token: &[u8],
+    clock: u64,
+) -> u8
+    requires { ⌜ (length (now units) ≡ 4096) × (unit .0 < 8) × (cdbLen (codeOf (now command)) + 78 ≤ length (now command)) × (need ≡ needFor (now command)) ⌝ }
     ensures { λ r. ⌜ r ≡ first (capabilityTests (now (units .entry)) (unit .0) (now (command .entry)) (now (token .entry)) clock) ⌝ }
 {
     let place = unit.0 as usize * 512;
     let end = place + 512;
-    let early = early_reason(&units[place..end], command, clock);
+    let early = early_reason(&units[place..end], command, need, clock);
     if early == 0 {
-        return late_reason(units, unit, command, token);
+        return late_reason(units, unit, command, need, token);
     }
     early
 }
 
 // Are reasons 6 to 15 skipped?
-fn skips_guard(rec: &[u8], command: &[u8]) -> bool
+fn skips_guard(rec: &[u8], command: &[u8], need: Need) -> bool
+    requires { ⌜ need ≡ needFor (now command) ⌝ }
     ensures { λ r. ⌜ r ≡ skipsGuard (now (rec .entry)) (now (command .entry)) ⌝ }
 {
-    let open_row = is_open_row(need_for(command));
+    let open_row = is_open_row(need);
     let bare = is_bare(command);
-    let rules = rules_for(rec, command);
+    let rules = rules_for(rec, need);
     choice::or(open_row, choice::and(bare, !rules))
 }
 
@@ -153,13 +161,14 @@ fn guard_reason(units: &[u8], unit: UnitNo, command: &[u8], token: &[u8], clock:
 {
     let place = unit.0 as usize * 512;
     let end = place + 512;
-    if skips_guard(&units[place..end], command) {
+    let need = need_for(command);
+    if skips_guard(&units[place..end], command, need) {
         return 0;
     }
     if is_bare(command) {
         return 6;
     }
-    capability_reason(units, unit, command, token, clock)
+    capability_reason(units, unit, command, need, token, clock)
 }
 
 // Reason 16 or 17, or 0.

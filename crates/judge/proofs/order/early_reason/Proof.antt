@@ -18,29 +18,26 @@ cast-a c = search needs
 rules-for-requires : tie.Need-rules-for-requires
 rules-for-requires c κs = search needs
 
-need-for-requires : tie.Need-need-for-requires
-need-for-requires c κs = search needs
-
 bits-needed-requires : tie.Need-bits-needed-requires
 bits-needed-requires c κs = search needs
 
 form-reason-requires : tie.Need-form-reason-requires
 form-reason-requires c κs =
-    let a = c .before .before .before .before .before .before .before .args in
-    cdb-fits (a .command .now) _ _ (c .before .before .before .before .at .ensures) (c .before .before .before .cdb-len .ensures) (c .before .before .before .before .before .before .before .pre .1) .0
+    cdb-fits (c .before .before .before .before .before .before .args .command .now) _ _ (c .before .before .before .at .ensures) (c .before .before .cdb-len .ensures) (c .before .before .before .before .before .before .pre .1) .0
 
 fact-reason-requires : tie.Need-fact-reason-requires
 fact-reason-requires c κs =
-    let a = c .before .before .before .before .before .before .before .before .args in
-    let f = cdb-fits (a .command .now) _ _ (c .before .before .before .before .before .at .ensures) (c .before .before .before .before .cdb-len .ensures) (c .before .before .before .before .before .before .before .before .pre .1) in
-    (f .0, omega (arith, f .1), c .before .before .before .before .before .before .before .before .pre .0)
+    let f = cdb-fits (c .before .before .before .before .before .before .before .args .command .now) _ _ (c .before .before .before .before .at .ensures) (c .before .before .before .cdb-len .ensures) (c .before .before .before .before .before .before .before .pre .1) in
+    (f .0, omega (arith, f .1), c .before .before .before .before .before .before .before .pre .0)
 
 or-else-requires : tie.Need-or-else-requires
 or-else-requires c κs = search needs
 
 returns : tie.Need-returns
 unfolding earlyReason
-returns c = simp (c .or-else .ensures, c .before .fact-reason .ensures, c .before .before .form-reason .ensures, c .before .before .before .bits-needed .ensures, c .before .before .before .before .need-for .ensures, c .before .before .before .before .before .rules-for .ensures, c .before .before .before .before .before .before .cdb-len .ensures, c .before .before .before .before .before .before .before .at .ensures)
+returns c =
+    let e = c .before .before .before .before .before .before .before .before .before .pre .2 in
+    simp (c .or-else .ensures, c .before .fact-reason .ensures, c .before .before .form-reason .ensures, c .before .before .before .bits-needed .ensures, c .before .before .before .before .rules-for .ensures _ e, c .before .before .before .before .before .cdb-len .ensures, c .before .before .before .before .before .before .at .ensures, e)
 
 pub early-reason-spec : {M : Type 1} → statement M
 early-reason-spec =
@@ -50,7 +47,6 @@ early-reason-spec =
     cdb-len-requires
     cast-a
     rules-for-requires
-    need-for-requires
     bits-needed-requires
     form-reason-requires
     fact-reason-requires

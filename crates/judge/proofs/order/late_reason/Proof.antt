@@ -36,9 +36,6 @@ part-rules-for-end c = search needs
 rules-for-requires : tie.Need-rules-for-requires
 rules-for-requires c κs = search needs
 
-need-for-requires : tie.Need-need-for-requires
-need-for-requires c κs = search needs
-
 is-master-requires : tie.Need-is-master-requires
 is-master-requires c κs = search needs
 
@@ -47,13 +44,15 @@ is-change-requires c κs = search needs
 
 key-reason-requires : tie.Need-key-reason-requires
 key-reason-requires c κs =
-    let a = c .before .before .before .before .before .before .before .before .before .before .before .args in
-    let f = cdb-fits (a .command .now) _ _ (c .before .before .before .before .before .before .at .ensures) (c .before .before .before .before .before .cdb-len .ensures) (c .before .before .before .before .before .before .before .before .before .before .before .pre .2) in
-    (c .before .before .before .before .before .before .before .before .before .before .before .pre .0, c .before .before .before .before .before .before .before .before .before .before .before .pre .1, f .0, f .1)
+    let p = c .before .before .before .before .before .before .before .before .before .before .pre in
+    let f = cdb-fits (c .before .before .before .before .before .before .before .before .before .before .args .command .now) _ _ (c .before .before .before .before .before .at .ensures) (c .before .before .before .before .cdb-len .ensures) (p .2) in
+    (p .0, p .1, f .0, f .1)
 
 returns : tie.Need-returns
 unfolding lateReason
-returns c = simp (c .key-reason .ensures, c .before .is-change .ensures, c .before .before .is-master .ensures, c .before .before .before .need-for .ensures, c .before .before .before .before .rules-for .ensures, c .before .before .before .before .before .before .cdb-len .ensures, c .before .before .before .before .before .before .before .at .ensures, lent-part)
+returns c =
+    let e = c .before .before .before .before .before .before .before .before .before .before .before .pre .3 in
+    simp (c .key-reason .ensures, c .before .is-change .ensures, c .before .before .is-master .ensures, c .before .before .before .rules-for .ensures _ e, c .before .before .before .before .before .cdb-len .ensures, c .before .before .before .before .before .before .at .ensures, e, lent-part)
 
 pub late-reason-spec : {M : Type 1} → statement M
 late-reason-spec =
@@ -69,7 +68,6 @@ late-reason-spec =
     part-rules-for-start
     part-rules-for-end
     rules-for-requires
-    need-for-requires
     is-master-requires
     is-change-requires
     key-reason-requires

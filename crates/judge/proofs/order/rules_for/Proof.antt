@@ -8,9 +8,6 @@ use Rattle.judge.proofs.order.rules_for.Tie as tie
 be16-requires : tie.Need-be16-requires
 be16-requires c κs = search needs
 
-need-for-requires : tie.Need-need-for-requires
-need-for-requires c κs = search needs
-
 is-master-requires : tie.Need-is-master-requires
 is-master-requires c κs = search needs
 
@@ -19,8 +16,7 @@ or-requires c κs = search needs
 
 returns : tie.Need-returns
 unfolding rulesFor method
-returns c = simp (c .or .ensures, c .before .is-master .ensures, c .before .before .need-for .ensures, c .before .before .before .be16 .ensures)
+returns c = λ d e. simp (c .or .ensures, c .before .is-master .ensures, c .before .before .be16 .ensures, e)
 
 pub rules-for-spec : {M : Type 1} → statement M
-rules-for-spec =
-    tie.close (tie.spec be16-requires need-for-requires is-master-requires or-requires returns)
+rules-for-spec = tie.close (tie.spec be16-requires is-master-requires or-requires returns)

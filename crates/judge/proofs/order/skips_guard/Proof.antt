@@ -4,9 +4,6 @@ use borrow.Author.Needs.{needs}
 use Rattle.judge.proofs.order.skips_guard.Statement.{statement}
 use Rattle.judge.proofs.order.skips_guard.Tie as tie
 
-need-for-requires : tie.Need-need-for-requires
-need-for-requires c κs = search needs
-
 is-open-row-requires : tie.Need-is-open-row-requires
 is-open-row-requires c κs = search needs
 
@@ -24,13 +21,14 @@ or-requires c κs = search needs
 
 returns : tie.Need-returns
 unfolding skipsGuard
-returns c = simp (c .or .ensures, c .before .and .ensures, c .before .before .rules-for .ensures, c .before .before .before .is-bare .ensures, c .before .before .before .before .is-open-row .ensures, c .before .before .before .before .before .need-for .ensures)
+returns c =
+    let e = c .before .before .before .before .before .before .before .pre in
+    simp (c .or .ensures, c .before .and .ensures, c .before .before .rules-for .ensures _ e, c .before .before .before .is-bare .ensures, c .before .before .before .before .is-open-row .ensures, e)
 
 pub skips-guard-spec : {M : Type 1} → statement M
 skips-guard-spec =
     tie.close
     (tie.spec
-    need-for-requires
     is-open-row-requires
     is-bare-requires
     rules-for-requires
