@@ -1,14 +1,16 @@
 -- Laws of the judgement.
 use mathlib.Core.Path.{_≡_, refl}
-use mathlib.Core.Bool.{true, false}
+use mathlib.Core.Bool.{Bool, true, false}
 use mathlib.Core.List.{List}
 use Prim.Native.Nat.{ℕ, _≤_}
 use lib.Dec.{eqb}
 use lib.ListN.{length}
 use borrow.Author.Tests.{le-ltb, eq-eqb}
+use Rattle.choice.specs.Choice.{pick, both, either}
 use Rattle.choice.specs.ChoiceLaws.{either-right}
-use Rattle.model.specs.Rows.{listed}
-use Rattle.judge.specs.Command.{codeOf, needFor, isMaster}
+use Rattle.model.specs.Rows.{listed, byPage, needOf, pageNeed}
+use Rattle.model.specs.declared.Need.the-variants.{Unknown}
+use Rattle.judge.specs.Command.{codeOf, needFor, isMaster, isUnknown}
 use Rattle.units.specs.declared.UnitState.the-variants.{Used}
 use Rattle.units.specs.Unit.{unitState, method}
 use Rattle.judge.specs.Judgement.{first, unitTests, commandTests, openTests, openReason, rulesFor}
@@ -33,3 +35,13 @@ capkey-rules rec c e = rw (eq-eqb (method rec) 1 e)
 pub master-rules : (rec c : List ℕ) → isMaster (needFor c) ≡ true → rulesFor rec c ≡ true
 unfolding rulesFor
 master-rules rec c e = either-right (eqb (method rec) 1) (isMaster (needFor c)) e
+
+-- where a code goes by page, its page alone tells whether the command is unknown
+pub unknown-page : (code page : ℕ) (t : Bool)
+    → both (byPage code) (either t (isUnknown (pageNeed code page))) ≡ both (byPage code) (either t (isUnknown (needOf code page)))
+unfolding pageNeed
+unknown-page code page t = go (byPage code)
+  where
+    go : (b : Bool) → both b (either t (isUnknown (pick b (needOf code page) Unknown))) ≡ both b (either t (isUnknown (needOf code page)))
+    go true = refl
+    go false = refl

@@ -169,7 +169,7 @@ pub fn command_reason(command: &[u8]) -> u8
 {
     let n = command.len();
     let code = wire::at(command, 0);
-    let need = model::need_of(code, wire::be16(command, 2) as u32);
+    let need = model::page_need(code, wire::be16(command, 2) as u32);
     let protocol = wire::at(command, 1);
     let bit = wire::at(command, 4) / 128 % 2 == 1;
     let security = by_page(code);

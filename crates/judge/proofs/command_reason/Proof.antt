@@ -1,6 +1,7 @@
 -- Call by call as the list of tests has it.
 use Rattle.judge.specs.Command.{needFor}
 use Rattle.judge.specs.Judgement.{commandTests}
+use Rattle.judge.specs.JudgementLaws.{unknown-page}
 use borrow.Author.Needs.{needs}
 use Rattle.judge.proofs.command_reason.Statement.{statement}
 use Rattle.judge.proofs.command_reason.Tie as tie
@@ -11,11 +12,11 @@ at-requires c κs = search needs
 be16-requires : tie.Need-be16-requires
 be16-requires c κs = search needs
 
-cast-need-of : tie.Need-cast-need-of
-cast-need-of c = search needs
+cast-page-need : tie.Need-cast-page-need
+cast-page-need c = search needs
 
-need-of-requires : tie.Need-need-of-requires
-need-of-requires c κs = search needs
+page-need-requires : tie.Need-page-need-requires
+page-need-requires c κs = search needs
 
 at-requires-2 : tie.Need-at-requires-2
 at-requires-2 c κs = search needs
@@ -61,7 +62,7 @@ judged-requires-4 c κs = search needs
 
 returns : tie.Need-returns
 unfolding commandTests needFor
-returns c = simp (c .judged4 .ensures, c .before .judged3 .ensures, c .before .before .judged2 .ensures, c .before .before .before .judged .ensures, c .before .before .before .before .and2 .ensures, c .before .before .before .before .before .and .ensures, c .before .before .before .before .before .before .or2 .ensures, c .before .before .before .before .before .before .before .is-unknown .ensures, c .before .before .before .before .before .before .before .before .legal-len .ensures, c .before .before .before .before .before .before .before .before .before .or .ensures, c .before .before .before .before .before .before .before .before .before .before .known .ensures, c .before .before .before .before .before .before .before .before .before .before .before .by-page .ensures, c .before .before .before .before .before .before .before .before .before .before .before .before .at3 .ensures, c .before .before .before .before .before .before .before .before .before .before .before .before .before .at2 .ensures, c .before .before .before .before .before .before .before .before .before .before .before .before .before .before .need-of .ensures, c .before .before .before .before .before .before .before .before .before .before .before .before .before .before .before .be16 .ensures, c .before .before .before .before .before .before .before .before .before .before .before .before .before .before .before .before .at .ensures)
+returns c = simp (c .judged4 .ensures, c .before .judged3 .ensures, c .before .before .judged2 .ensures, c .before .before .before .judged .ensures, c .before .before .before .before .and2 .ensures, c .before .before .before .before .before .and .ensures, c .before .before .before .before .before .before .or2 .ensures, c .before .before .before .before .before .before .before .is-unknown .ensures, c .before .before .before .before .before .before .before .before .legal-len .ensures, c .before .before .before .before .before .before .before .before .before .or .ensures, c .before .before .before .before .before .before .before .before .before .before .known .ensures, c .before .before .before .before .before .before .before .before .before .before .before .by-page .ensures, c .before .before .before .before .before .before .before .before .before .before .before .before .at3 .ensures, c .before .before .before .before .before .before .before .before .before .before .before .before .before .at2 .ensures, c .before .before .before .before .before .before .before .before .before .before .before .before .before .before .page-need .ensures, c .before .before .before .before .before .before .before .before .before .before .before .before .before .before .before .be16 .ensures, c .before .before .before .before .before .before .before .before .before .before .before .before .before .before .before .before .at .ensures, unknown-page)
 
 pub command-reason-spec : {M : Type 1} → statement M
 command-reason-spec =
@@ -69,8 +70,8 @@ command-reason-spec =
     (tie.spec
     at-requires
     be16-requires
-    cast-need-of
-    need-of-requires
+    cast-page-need
+    page-need-requires
     at-requires-2
     at-requires-3
     by-page-requires
