@@ -6,19 +6,13 @@ use model::Sense;
 use text::put;
 use text::put_digits;
 use text::put_hex;
-ghost use Prim.Native.Nat.{_≤_};
+use wire::least;
 
 // The bytes of s from a up to e, as far as it has them.
 pub fn part(s: &[u8], a: usize, e: usize) -> &[u8] {
     let end = least(e, s.len());
     let start = least(a, end);
     &s[start..end]
-}
-
-fn least(a: usize, b: usize) -> usize
-    ensures { λ r. ⌜ (r ≤ a) × (r ≤ b) ⌝ }
-{
-    if a < b { a } else { b }
 }
 
 fn put_decimal(out: &mut [u8], at: usize, x: u64) -> usize {

@@ -12,18 +12,7 @@ ghost use lib.ListN.{length};
 
 // ---- the calls
 
-// Space starts with the identifier and the two keys.
-fn build(units: &mut [u8], unit: UnitNo, method: u32, tag: u32, space: &[u8]) -> Answer
-    requires { ⌜ 56 ≤ length (now space) ⌝ }
-{
-    let mut identifier = [0u8; 16];
-    wire::put(&mut identifier, 0, &space[0..16]);
-    let auth_key = wire::bytes20(space, 16);
-    let gen_key = wire::bytes20(space, 36);
-    calls::build(units, unit, method, tag, &identifier, &auth_key, &gen_key)
-}
-
-// Damage: puts the bytes into a table, where they end within it, and answers as text::put does.
+// Damage: puts the bytes into a table, where they end within it. Nothing is printed for it.
 fn poke(
     table: Table,
     units: &mut [u8],
@@ -37,11 +26,31 @@ fn poke(
         Table::Slots => text::put(slots, at, bytes),
         Table::Reply => text::put(reply, at, bytes),
     }
+    ;
+    0
 }
 
-// ---- a line
+// ---- a line: each call puts its answer's text into out
 
-// Opens the command that stands in space up to `command`, with the token behind it; and puts the answer's text into out.
+// Builds a unit record; space starts with the identifier and the two keys.
+fn build_text(
+    units: &mut [u8],
+    unit: UnitNo,
+    method: u32,
+    tag: u32,
+    space: &[u8],
+    out: &mut [u8],
+) -> usize
+    requires { ⌜ 56 ≤ length (now space) ⌝ }
+{
+    let mut identifier = [0u8; 16];
+    wire::put(&mut identifier, 0, &space[0..16]);
+    let auth_key = wire::bytes20(space, 16);
+    let gen_key = wire::bytes20(space, 36);
+    let answer = calls::build(units, unit, method, tag, &identifier, &auth_key, &gen_key);
+    listing::answer_text(out, answer, b"")
+}
+
 fn open_text(
     units: &mut [u8],
     slots: &mut [u8],
@@ -85,10 +94,7 @@ fn obey(
 {
     match call {
         Call::Blank => 0,
-        Call::Build { unit, method, tag } => {
-            let answer = build(units, unit, method, tag, space);
-            listing::answer_text(out, answer, &reply[..])
-        }
+        Call::Build { unit, method, tag } => build_text(units, unit, method, tag, space, out),
         Call::Open {
             unit,
             clock,
@@ -106,15 +112,8 @@ fn obey(
         Call::Abort(slot) => listing::answer_text(out, calls::abort(slots, slot), &reply[..]),
         Call::Reset => listing::answer_text(out, calls::reset(slots), &reply[..]),
         Call::Poke { table, at, bytes } => {
-            poke(
-                table,
-                units,
-                slots,
-                reply,
-                at,
-                listing::part(space, 0, bytes),
-            );
-            0
+            let b = listing::part(space, 0, bytes);
+            poke(table, units, slots, reply, at, b)
         }
         Call::State => listing::state_text(out, &units[..], &slots[..], &reply[..]),
         Call::Wrong(fault) => listing::fault_text(out, n, fault),

@@ -71,7 +71,7 @@ pub fn be48(s: &[u8], a: usize) -> u64
 }
 
 // The lesser of the two.
-fn least(a: usize, b: usize) -> usize
+pub fn least(a: usize, b: usize) -> usize
     ensures { λ r. ⌜ (r ≤ a) × (r ≤ b) × ((r ≡ a) ⊎ (r ≡ b)) ⌝ }
 {
     if a < b { a } else { b }
