@@ -11,8 +11,7 @@ ghost use Rattle.md.specs.Parts.{Takes};
 ghost use Rattle.sha1.specs.Sha1.{initial, compressed, digestOf, sha1};
 ghost use Rattle.sha1.specs.Running.{Holds, Continued};
 
-// A hash that has taken in a message so far: the bytes after its whole blocks, its length, and the state after its whole blocks. In this
-// order a copy of the struct and one of the buffer go by the same pieces, so that neither waits for the other's stores.
+// A hash that has taken in a message so far: the bytes after its whole blocks, its length, and the state after its whole blocks.
 pub struct Running {
     pub buffer: [u8; 64],
     pub total: u64,
