@@ -2,7 +2,7 @@
 """Prints examples/story.txt: a listing of calls that tells how a guarded unit is used, from its first refusal to a change of keys.
 
 The capabilities are made here with Python's own hmac and hashlib, as the security manager of a store would make them (document 01,
-"Descriptor" and "Pages"); the program `replay` answers the listing. Run tools/story to see each line with its answer.
+"Descriptor" and "Pages"); the program `replay` answers the listing. Run `make demo` to see each line with its answer.
 """
 import hashlib
 import hmac
@@ -156,7 +156,7 @@ def after_change(old, auth_key, gen_key):
 
 
 def main():
-    print("# How a guarded unit is used. Made by examples/story.py; tools/story shows each line with its answer.")
+    print("# How a guarded unit is used. Made by examples/story.py; `make demo` shows each line with its answer.")
     key = mac(GEN_KEY, SEED)
     guarded_unit()
     first_key()

@@ -71,7 +71,12 @@ extern "C" {
  * calls have the same number. */
 
 #define NN_ANSWER(result) ((unsigned)((result) & 0xff))
+
+/* The status byte for the initiator, where there is one. Beside A1 and H1 to H5 it is 00h because there is none: that is no GOOD. A store
+ * that forwards it unread answers GOOD to a command that nothing has run, so ask NN_HAS_STATUS first. */
 #define NN_STATUS(result) ((unsigned)((result) >> 8 & 0xff))
+#define NN_HAS_STATUS(result) (NN_ANSWER(result) <= NN_A4 && NN_ANSWER(result) != NN_A1)
+
 #define NN_SENSE_KEY(result) ((unsigned)((result) >> 16 & 0xff))
 #define NN_CODE(result) ((unsigned)((result) >> 24 & 0xff))
 #define NN_QUALIFIER(result) ((unsigned)((result) >> 32 & 0xff))
@@ -115,16 +120,19 @@ extern "C" {
  *   7    5h  24h/00h  capability: format not 1h
  *   8    5h  24h/00h  capability: method not CAPKEY where CAPKEY rules, else above 1
  *   9    5h  24h/00h  capability: algorithm not 1, where CAPKEY rules
- *   10   5h  24h/00h  capability: expired
+ *   10   5h  24h/00h  capability: expiration not zero and below the clock
  *   11   5h  24h/00h  capability: a needed permission bit is missing
  *   12   5h  24h/00h  capability: policy tag not zero and not the unit's
- *   13   5h  24h/00h  capability: not for this unit's identifier
+ *   13   5h  24h/00h  capability: type not 1h, length not 16, or identifier not the unit's
  *   14   5h  24h/00h  CAPKEY rules and there is no such key
  *   15   5h  24h/00h  the integrity check value differs
  *   16   5h  1Ah/00h  B5h: bytes 6-9 are not the page's total
  *   17   5h  24h/00h  A2h, page 0012h: no seed exchange is pending
  *   18   5h  1Ah/00h  B5h: the data are not as long as bytes 6-9 say
  *   19   5h  26h/00h  B5h: page code, page length, a field or a named zero of the data is wrong
+ *
+ * CAPKEY rules on CAPKEY units, and on every unit for the commands that want a master key: SECURITY PROTOCOL OUT, and page 0012h of
+ * SECURITY PROTOCOL IN.
  *
  * There is no reason 5. 18 and 19 come only from nn_close. */
 #define NN_REASON_UNSOUND 0x1b
@@ -168,8 +176,8 @@ uint64_t nn_open(uint8_t *units, size_t units_len, uint8_t *slots, size_t slots_
  * nn_close - the data of a parked command have come
  *
  * Gets:    the three buffers; the slot; the data; the clock. The command is judged again from the start, by the unit's record as it
- *          is now and by this clock; for SECURITY PROTOCOL OUT (B5h) the data are the parameter list, for other commands they are not
- *          looked at.
+ *          is now and by this clock; for SECURITY PROTOCOL OUT (B5h) the data are the parameter list, for other commands they have no
+ *          part in the answer.
  * Gives:   H1  units_len is not 4,096, slots_len not 8,192 or reply_len not 512
  *          H3  the slot is above 15, free or unsound
  *          A3  with a reason from 1 to 19, but not 2, 3 or 17, which a parked command can't have

@@ -1,66 +1,53 @@
--- The call open (document 01): its answer and every lent byte that it leaves, for any input. First what it does is planned, from what
--- is lent alone; then the plan is applied.
-use mathlib.Core.Bool.{Bool, not}
-use mathlib.Core.List.{List}
+-- The call open (document 01): its answer and every lent byte that it leaves, for any input.
+use mathlib.Core.Bool.{Bool}
+use mathlib.Core.List.{List, []}
 use Prim.Native.Nat.{ℕ}
-use lib.Dec.{eqb, leb}
-use lib.ListN.{length, take}
+use lib.Dec.{eqb}
+use lib.ListN.{length}
 use Rattle.choice.specs.Choice.{both, pick}
-use Rattle.wire.specs.Bytes.{number, patch}
+use Rattle.wire.specs.Bytes.{patch}
 use Rattle.model.specs.Codes.{dataOut}
-use Rattle.model.specs.Refusal.{refusal}
-use Rattle.model.specs.declared.Answer.the-variants.{Good, Parked, Run, Full, H1, H2}
-use Rattle.units.specs.Unit.{unitAt, keySetOf}
-use Rattle.slots.specs.Slot.{lowestFree, parked}
+use Rattle.model.specs.declared.Answer.the-variants.{Parked, Full, H1, H2}
+use Rattle.slots.specs.Slot.{rightToken, lowestFree, parked}
 use Rattle.slots.specs.declared.Found.{Found}
 use Rattle.slots.specs.declared.Found.the-variants.{At, Nothing}
-use Rattle.judge.specs.Command.{codeOf, pageOf}
+use Rattle.judge.specs.Command.{codeOf}
+use Rattle.judge.specs.Seen.{seen}
 use Rattle.judge.specs.Judgement.{openReason}
-use Rattle.pages.specs.In.{inPage, sizeOf, countOf}
-use Rattle.calls.specs.Lent.{Lent, lent, Outcome, gives, rightlyLent}
-use Rattle.calls.specs.declared.opening.Opening.{Opening}
-use Rattle.calls.specs.declared.opening.Opening.the-variants.{Say, Reply, Park}
+use Rattle.calls.specs.Outcome.{TableOutcome, leaves, Lent, lent, tables, Outcome, gives, onSlots, rightlyLent}
+use Rattle.calls.specs.Whole.{Asked, judged, Whole, stored}
 
--- a token of 16 to 64 bytes: else H2
-unfoldable pub rightToken : ℕ → Bool
-rightToken n = both (leb 16 n) (leb n 64)
+-- the reason that an open refuses for: it judges to 17
+abbrev pub reasonAtOpen : List ℕ → Asked → ℕ → ℕ
+reasonAtOpen units k clock = openReason (seen units (k .unit)) (k .command) (k .token) clock
 
--- is it handled here? A2h is, but for page 0012h
-unfoldable pub isReplied : List ℕ → Bool
-isReplied c = both (eqb (codeOf c) 0xA2) (not (eqb (pageOf c) 0x0012))
+-- then it parks a data-out command
+abbrev pub parks : List ℕ → Asked → ℕ → Bool
+parks units k clock = both (eqb (reasonAtOpen units k clock) 0) (dataOut (codeOf (k .command)))
 
--- the lowest sound free slot, or TASK SET FULL
-abbrev pub slotPlan : Found → Opening
-slotPlan (At s) = Park s
-slotPlan Nothing = Say Full
+-- in the lowest sound free slot, or answers A4
+abbrev pub parkedIn : List ℕ → Asked → Found → TableOutcome
+parkedIn slots k (At s) = leaves (Parked s) (parked (s .0) (k .unit) (k .command) (k .token) slots)
+parkedIn slots k Nothing = leaves Full slots
 
--- a command that passed: a data-out command is parked, a page handled here replied, the rest run by medium or crypto block
-unfoldable pub passedPlan : List ℕ → List ℕ → Opening
-passedPlan slots c =
-    pick (dataOut (codeOf c)) (slotPlan (lowestFree slots))
-    (pick (isReplied c) (Reply (pageOf c) (countOf (sizeOf (pageOf c)) (number 4 6 c)))
-    (Say Run))
+-- any other command is answered at once; it has no data
+abbrev pub answeredAtOpen : List ℕ → Asked → ℕ → Whole
+answeredAtOpen units k clock = stored units (k .unit) (judged (seen units (k .unit)) (k .command) [] (reasonAtOpen units k clock))
 
--- judged to 17
-unfoldable pub judgedPlan : List ℕ → List ℕ → ℕ → List ℕ → List ℕ → ℕ → Opening
-judgedPlan units slots u c token clock =
-    pick (eqb (openReason units u c token clock) 0) (passedPlan slots c)
-    (Say (refusal (openReason units u c token clock)))
+-- what answering a command leaves: the unit table as it is then, and the written bytes at the reply's front
+abbrev pub answered : Lent → Whole → Outcome
+answered l w = gives (w .answer) (lent (tables (w .units) (l .tabled .slots)) (patch (l .reply) 0 (w .written)))
+
+-- a command with the right lengths
+unfoldable pub judgedOut : Lent → Asked → ℕ → Outcome
+judgedOut l k clock =
+    pick (parks (l .tabled .units) k clock)
+    (onSlots l (parkedIn (l .tabled .slots) k (lowestFree (l .tabled .slots))))
+    (answered l (answeredAtOpen (l .tabled .units) k clock))
 
 -- H1 before all, then H2
-unfoldable pub openPlan : Lent → ℕ → List ℕ → List ℕ → ℕ → Opening
-openPlan l u c token clock =
+unfoldable pub openOut : Lent → Asked → ℕ → Outcome
+openOut l k clock =
     pick (rightlyLent l)
-    (pick (rightToken (length token)) (judgedPlan (l .units) (l .slots) u c token clock)
-    (Say H2))
-    (Say H1)
-
--- what each plan leaves: an answer alone leaves every byte; a page's first count bytes are written; a command is parked in that slot
-abbrev pub applyOpen : Lent → ℕ → List ℕ → List ℕ → Opening → Outcome
-applyOpen l u c token (Say a) = gives a l
-applyOpen l u c token (Reply page count) =
-    gives (Good count) (lent (l .units) (l .slots) (patch (l .reply) 0 (take count (inPage page (unitAt u (l .units)) (keySetOf (l .units) u)))))
-applyOpen l u c token (Park s) = gives (Parked s) (lent (l .units) (parked (s .0) u c token (l .slots)) (l .reply))
-
-unfoldable pub openOut : Lent → ℕ → List ℕ → List ℕ → ℕ → Outcome
-openOut l u c token clock = applyOpen l u c token (openPlan l u c token clock)
+    (pick (rightToken (length (k .token))) (judgedOut l k clock) (gives H2 l))
+    (gives H1 l)

@@ -1,40 +1,38 @@
 // Close: the data of a parked command have come; the command is judged again, done or refused, and its slot is free.
 use super::opening::Answered;
 use super::opening::right_lengths;
+use judge::Facts;
 use model::Answer;
 use model::SlotNo;
 use model::UnitNo;
 ghost use mathlib.Core.Path.{_≡_};
-ghost use mathlib.Core.Bool.{false};
-ghost use Prim.Native.Nat.{_*_, _<_};
+ghost use mathlib.Core.Bool.{true, false};
+ghost use Prim.Native.Nat.{_<_};
+ghost use lib.Dec.{eqb};
 ghost use lib.ListN.{length};
-ghost use Rattle.wire.specs.Bytes.{patch};
 ghost use Rattle.model.specs.Totals.{totalOf};
-ghost use Rattle.units.specs.Unit.{unitAt};
-ghost use Rattle.slots.specs.Slot.{slotStateOf, slotUnit, slotCommand, slotToken};
+ghost use Rattle.slots.specs.Slot.{slotStateOf};
 ghost use Rattle.slots.specs.declared.SlotState.the-variants.{Open};
+ghost use Rattle.judge.specs.Command.{codeOf, pageOf, factsOf};
+ghost use Rattle.judge.specs.Seen.{seen};
 ghost use Rattle.judge.specs.Judgement.{first};
 ghost use Rattle.pages.specs.Out.{wrongList};
-ghost use Rattle.pages.specs.Effects.{newRecord};
-ghost use Rattle.calls.specs.Lent.{lent, gives};
-ghost use Rattle.calls.specs.Close.{listTests, closeReason, endPlan, rejudgedPlan, heldPlan, closeOut};
+ghost use Rattle.calls.specs.Outcome.{leaves, lent, tables, gives};
+ghost use Rattle.calls.specs.Slots.{holds};
+ghost use Rattle.calls.specs.Whole.{listTests, closeReason, isReplied, madeBy, passed, laid, stored, whole};
+ghost use Rattle.calls.specs.Close.{heldBy, closeOut};
+ghost use Rattle.calls.specs.Parts.{onUnits};
 
-// What a close does: it says an answer and keeps all, answers and frees the slot, or does what an Out page says to a unit and frees it.
-pub enum Closing {
-    Keep(Answer),
-    End(Answer),
-    Obey(UnitNo, u32),
-}
-
-// Reason 18 or 19, or 0.
-fn list_reason(command: &[u8], list: &[u8]) -> u8
+// 18 and 19.
+fn list_reason(command: &[u8], facts: Facts, list: &[u8]) -> u8
+    requires { ⌜ facts ≡ factsOf (now command) ⌝ }
     ensures { λ r. ⌜ r ≡ first (listTests (now (command .entry)) (now (list .entry))) ⌝ }
 {
-    let code = wire::at(command, 0);
-    let page = wire::be16(command, 2) as u32;
+    let code = facts.code;
+    let page = facts.page;
     let told = wire::be32(command, 6) as usize;
-    let length = choice::and(code == 0xB5, list.len() != told);
-    let wrong = choice::and(code == 0xB5, pages::wrong_list(page, list));
+    let length = choice::and(code == model::PROTOCOL_OUT, list.len() != told);
+    let wrong = choice::and(code == model::PROTOCOL_OUT, pages::wrong_list(page, list));
     judge::judged(length, 18, judge::judged(wrong, 19, 0))
 }
 
@@ -43,87 +41,78 @@ fn close_reason(
     units: &[u8],
     unit: UnitNo,
     command: &[u8],
+    facts: Facts,
     token: &[u8],
     list: &[u8],
     clock: u64,
 ) -> u8
-    requires { ⌜ length (now units) ≡ 4096 ⌝ }
-    ensures { λ r. ⌜ r ≡ closeReason (now (units .entry)) (unit .0) (now (command .entry)) (now (token .entry)) (now (list .entry)) clock ⌝ }
+    requires { ⌜ (length (now units) ≡ 4096) × (facts ≡ factsOf (now command)) ⌝ }
+    ensures { λ r. ⌜ r ≡ closeReason (seen (now (units .entry)) (unit .0)) (now (command .entry)) (now (token .entry)) (now (list .entry)) clock ⌝ }
 {
-    let early = judge::open_reason(units, unit, command, token, clock);
+    let early = judge::open_reason(units, unit, command, facts, token, clock);
     if early == 0 {
-        return list_reason(command, list);
+        return list_reason(command, facts, list);
     }
     early
 }
 
-// What follows a command that nothing refused.
-fn end_plan(unit: UnitNo, command: &[u8]) -> Closing
-    ensures { λ r. ⌜ r ≡ endPlan (unit .0) (now (command .entry)) ⌝ }
+// Does what an Out page says, with a list that nothing is wrong with: to the unit's attributes, or to its key set, where its keeper has it.
+fn obey(units: &mut [u8], unit: UnitNo, page: u32, list: &[u8])
+    requires { ⌜ (length (now units) ≡ 4096) × (unit .0 < 8) × (length (now list) ≡ totalOf page) × (wrongList page (now list) ≡ false) ⌝ }
+    ensures { λ _. ⌜ now (units .exit) ≡ laid (now (units .entry)) (unit .0) (madeBy (seen (now (units .entry)) (unit .0)) page (now (list .entry))) ⌝ }
 {
-    let code = wire::at(command, 0);
-    let page = wire::be16(command, 2) as u32;
-    if code == 0xB5 {
-        return Closing::Obey(unit, page);
+    if page == model::SET_ATTRIBUTES {
+        let a = unit.0 as usize * 512;
+        let e = a + 512;
+        pages::set_attributes(&mut units[a..e], list);
+    } else {
+        let keeper = units::keeper_of(&units[..], unit);
+        let a = keeper.0 as usize * 512;
+        let e = a + 512;
+        pages::set_keys(&mut units[a..e], page, list);
     }
-    Closing::End(Answer::Run)
 }
 
-// The command judged again.
-fn rejudge(
-    units: &[u8],
-    unit: UnitNo,
-    command: &[u8],
-    token: &[u8],
-    list: &[u8],
-    clock: u64,
-) -> Closing
-    requires { ⌜ length (now units) ≡ 4096 ⌝ }
-    ensures { λ r. ⌜ r ≡ rejudgedPlan (now (units .entry)) (unit .0) (now (command .entry)) (now (token .entry)) (now (list .entry)) clock ⌝ }
+// Answers a command that passed: B5h does what its page says, any other is run by medium or crypto block.
+fn finish(units: &mut [u8], unit: UnitNo, command: &[u8], facts: Facts, list: &[u8]) -> Answer
+    requires { ⌜ (length (now units) ≡ 4096) × (unit .0 < 8) × (facts ≡ factsOf (now command)) × (isReplied (now command) ≡ false) × (eqb (codeOf (now command)) 0xB5 ≡ true → (length (now list) ≡ totalOf (pageOf (now command))) × (wrongList (pageOf (now command)) (now list) ≡ false)) ⌝ }
+    ensures { λ r. ⌜ leaves r (now (units .exit)) ≡ onUnits (stored (now (units .entry)) (unit .0) (passed (seen (now (units .entry)) (unit .0)) (now (command .entry)) (now (list .entry)))) ⌝ }
 {
-    let reason = close_reason(units, unit, command, token, list, clock);
-    if reason == 0 {
-        return end_plan(unit, command);
+    let code = facts.code;
+    let page = facts.page;
+    if code == model::PROTOCOL_OUT {
+        obey(units, unit, page, list);
+        return Answer::Good(0);
     }
-    Closing::End(model::refuse(reason))
+    Answer::Run
 }
 
-// What a close of a sound open slot does, by the slot's record.
-fn plan_held(units: &[u8], rec: &[u8], list: &[u8], clock: u64) -> Closing
+// The command that a sound open slot holds, judged again.
+fn judge_again(units: &mut [u8], rec: &[u8], list: &[u8], clock: u64) -> Answer
     requires { ⌜ (length (now units) ≡ 4096) × (length (now rec) ≡ 512) × (slotStateOf (now rec) ≡ Open) ⌝ }
-    ensures { λ r. ⌜ r ≡ rejudgedPlan (now (units .entry)) (slotUnit (now (rec .entry))) (slotCommand (now (rec .entry))) (slotToken (now (rec .entry))) (now (list .entry)) clock ⌝ }
+    ensures { λ r. ⌜ leaves r (now (units .exit)) ≡ onUnits (whole (now (units .entry)) (heldBy (now (rec .entry))) (now (list .entry)) clock) ⌝ }
 {
-    let unit = wire::be16(rec, 2) as u32;
-    let c = 8 + wire::be16(rec, 4) as usize;
-    let t = 108 + wire::be16(rec, 6) as usize;
-    rejudge(units, UnitNo(unit), &rec[8..c], &rec[108..t], list, clock)
+    let unit = slots::unit_of(rec);
+    let command = slots::command_of(rec);
+    let token = slots::token_of(rec);
+    let facts = judge::facts_of(command);
+    let reason = close_reason(&units[..], unit, command, facts, token, list, clock);
+    if reason == 0 {
+        return finish(units, unit, command, facts, list);
+    }
+    model::refuse(reason)
 }
 
-// What a close with the right lengths does.
-fn plan_close(units: &[u8], slots: &[u8], slot: SlotNo, list: &[u8], clock: u64) -> Closing
-    requires { ⌜ (length (now units) ≡ 4096) × (length (now slots) ≡ 8192) ⌝ }
-    ensures { λ r. ⌜ r ≡ heldPlan (now (units .entry)) (now (slots .entry)) (slot .0) (now (list .entry)) clock ⌝ }
+// Does the slot hold a command?
+pub fn is_held(slots: &[u8], slot: SlotNo) -> bool
+    requires { ⌜ length (now slots) ≡ 8192 ⌝ }
+    ensures { λ r. ⌜ r ≡ holds (now (slots .entry)) (slot .0) ⌝ }
 {
     let s = slot.0;
     if 15 < s {
-        return Closing::Keep(Answer::H3);
+        return false;
     }
-    let a = s as usize * 512;
-    let e = a + 512;
-    if slots::is_open_at(slots, s as usize) {
-        return plan_held(units, &slots[a..e], list, clock);
-    }
-    Closing::Keep(Answer::H3)
-}
-
-// Does to a unit what an Out page says, with a list that nothing is wrong with.
-fn obey(units: &mut [u8], unit: UnitNo, page: u32, list: &[u8])
-    requires { ⌜ (length (now units) ≡ 4096) × (unit .0 < 8) × (length (now list) ≡ totalOf page) × (wrongList page (now list) ≡ false) ⌝ }
-    ensures { λ _. ⌜ now (units .exit) ≡ patch (now (units .entry)) (unit .0 * 512) (newRecord page (now (list .entry)) (unitAt (unit .0) (now (units .entry)))) ⌝ }
-{
-    let a = unit.0 as usize * 512;
-    let e = a + 512;
-    pages::obey(&mut units[a..e], page, list);
+    slots::is_open_at(slots, slot)
 }
 
 // Closes a slot: its command's data have come.
@@ -135,26 +124,15 @@ pub fn close(
     list: &[u8],
     clock: u64,
 ) -> Answered
-    ensures { λ r. ⌜ gives (r .answer) (lent (now (units .exit)) (now (slots .exit)) (now (reply .exit))) ≡ closeOut (lent (now (units .entry)) (now (slots .entry)) (now (reply .entry))) (slot .0) (now (list .entry)) clock ⌝ }
+    ensures { λ r. ⌜ gives (r .answer) (lent (tables (now (units .exit)) (now (slots .exit))) (now (reply .exit))) ≡ closeOut (lent (tables (now (units .entry)) (now (slots .entry))) (now (reply .entry))) (slot .0) (now (list .entry)) clock ⌝ }
 {
     if right_lengths(units.len(), slots.len(), reply.len()) {
-        let plan = plan_close(&units[..], &slots[..], slot, list, clock);
-        match plan {
-            Closing::Keep(answer) => {
-                return Answered { answer };
-            }
-            Closing::End(answer) => {
-                slots::free(slots, slot);
-                return Answered { answer };
-            }
-            Closing::Obey(unit, page) => {
-                obey(units, unit, page, list);
-                slots::free(slots, slot);
-                return Answered {
-                    answer: Answer::Good(0),
-                };
-            }
+        if is_held(&slots[..], slot) {
+            let answer = judge_again(units, slots::record_of(&slots[..], slot), list, clock);
+            slots::free(slots, slot);
+            return Answered { answer };
         }
+        return Answered { answer: Answer::H3 };
     }
     Answered { answer: Answer::H1 }
 }

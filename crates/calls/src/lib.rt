@@ -2,16 +2,15 @@
 mod closing;
 mod opening;
 
-pub use closing::Closing;
 pub use closing::close;
+use closing::is_held;
 use model::Answer;
 use model::SlotNo;
 use model::UnitNo;
 pub use opening::Answered;
-pub use opening::Opening;
 pub use opening::open;
 ghost use mathlib.Core.Path.{_≡_};
-ghost use Rattle.calls.specs.Outcome.{out};
+ghost use Rattle.calls.specs.Outcome.{leaves};
 ghost use Rattle.calls.specs.Build.{buildOut};
 ghost use Rattle.calls.specs.Slots.{abortOut, resetOut};
 
@@ -25,7 +24,7 @@ pub fn build(
     auth_key: &[u8; 20],
     gen_key: &[u8; 20],
 ) -> Answer
-    ensures { λ r. ⌜ out r (now (units .exit)) ≡ buildOut (now (units .entry)) (unit .0) method tag (now (identifier .entry)) (now («auth_key» .entry)) (now («gen_key» .entry)) ⌝ }
+    ensures { λ r. ⌜ leaves r (now (units .exit)) ≡ buildOut (now (units .entry)) (unit .0) method tag (now (identifier .entry)) (now («auth_key» .entry)) (now («gen_key» .entry)) ⌝ }
 {
     if units.len() != 4096 {
         return Answer::H1;
@@ -42,22 +41,18 @@ pub fn build(
     let generation = *gen_key;
     let a = u as usize * 512;
     let e = a + 512;
-    units::write_built(&mut units[a..e], u, method, tag, id, auth, generation);
+    units::write_built(&mut units[a..e], unit, method, tag, id, auth, generation);
     Answer::Good(0)
 }
 
 // Frees an open slot: its command is given up.
 pub fn abort(slots: &mut [u8], slot: SlotNo) -> Answer
-    ensures { λ r. ⌜ out r (now (slots .exit)) ≡ abortOut (now (slots .entry)) (slot .0) ⌝ }
+    ensures { λ r. ⌜ leaves r (now (slots .exit)) ≡ abortOut (now (slots .entry)) (slot .0) ⌝ }
 {
     if slots.len() != 8192 {
         return Answer::H1;
     }
-    let s = slot.0;
-    if 15 < s {
-        return Answer::H3;
-    }
-    if slots::is_open_at(&slots[..], s as usize) {
+    if is_held(&slots[..], slot) {
         slots::free(slots, slot);
         return Answer::Good(0);
     }
@@ -66,7 +61,7 @@ pub fn abort(slots: &mut [u8], slot: SlotNo) -> Answer
 
 // Frees every slot, unsound ones too.
 pub fn reset(slots: &mut [u8]) -> Answer
-    ensures { λ r. ⌜ out r (now (slots .exit)) ≡ resetOut (now (slots .entry)) ⌝ }
+    ensures { λ r. ⌜ leaves r (now (slots .exit)) ≡ resetOut (now (slots .entry)) ⌝ }
 {
     if slots.len() != 8192 {
         return Answer::H1;

@@ -19,3 +19,12 @@ either-right false b e = e
 pub pick-holds : {A : Type 0} (P : A → Type 0) (b : Bool) (x y : A) → P x → P y → P (pick b x y)
 pick-holds P true x y p q = p
 pick-holds P false x y p q = q
+
+-- the same, with the test that made the choice
+pub pick-cases : {A : Type 0} (P : A → Type 0) (b : Bool) (x y : A) → (b ≡ true → P x) → (b ≡ false → P y) → P (pick b x y)
+pick-cases P true x y p q = p refl
+pick-cases P false x y p q = q refl
+
+pub both-right : (b : Bool) → both b true ≡ b
+both-right true = refl
+both-right false = refl

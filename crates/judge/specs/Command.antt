@@ -1,15 +1,17 @@
--- A command as it is judged (document 01, "Commands and what they need"): its code, its page, whether it is bare, what it needs.
-use mathlib.Core.Bool.{Bool, true, false}
+-- A command as it is judged (document 01, "Commands and what they need"): its code, its page, what it needs, whether it is bare, and what a
+-- wrapped one brings behind its CDB.
+use mathlib.Core.Bool.{Bool}
 use mathlib.Core.List.{List}
-use Prim.Native.Nat.{ℕ}
+use Prim.Native.Nat.{ℕ, _+_}
 use lib.Dec.{eqb}
 use lib.ListN.{length, getD}
-use Rattle.choice.specs.Choice.{both}
-use Rattle.wire.specs.Bytes.{number}
-use Rattle.model.specs.Rows.{needOf}
+use Rattle.choice.specs.Choice.{both, either}
+use Rattle.wire.specs.Bytes.{part, number}
+use Rattle.model.specs.Protocol.{protocolOut, changeMaster}
+use Rattle.model.specs.Rows.{needOf, isUnknown}
 use Rattle.model.specs.Codes.{cdbLen}
 use Rattle.model.specs.declared.Need.{Need}
-use Rattle.model.specs.declared.Need.the-variants.{Unknown, Open, Bits, Master}
+use Rattle.judge.specs.declared.facts.Facts.{Facts}
 
 abbrev pub codeOf : List ℕ → ℕ
 codeOf c = getD c 0 0
@@ -18,38 +20,32 @@ codeOf c = getD c 0 0
 abbrev pub pageOf : List ℕ → ℕ
 pageOf c = number 2 2 c
 
--- the CDB alone
-unfoldable pub isBare : List ℕ → Bool
-isBare c = eqb (length c) (cdbLen (codeOf c))
-
--- Change Master Key: page 0015h of SECURITY PROTOCOL OUT
-unfoldable pub isChange : List ℕ → Bool
-isChange c = both (eqb (codeOf c) 0xB5) (eqb (pageOf c) 0x0015)
+-- the allocation length of an IN, or the parameter list length of an OUT, in bytes 6-9
+abbrev pub lengthField : List ℕ → ℕ
+lengthField c = number 4 6 c
 
 unfoldable pub needFor : List ℕ → Need
 needFor c = needOf (codeOf c) (pageOf c)
 
-abbrev pub isUnknown : Need → Bool
-isUnknown Unknown = true
-isUnknown Open = false
-isUnknown (Bits p) = false
-isUnknown (Master p) = false
+-- no row has it: it is empty, or its code is unlisted, or its page
+unfoldable pub isUnlisted : List ℕ → Bool
+isUnlisted c = either (eqb (length c) 0) (isUnknown (needFor c))
 
-abbrev pub isOpenRow : Need → Bool
-isOpenRow Unknown = false
-isOpenRow Open = true
-isOpenRow (Bits p) = false
-isOpenRow (Master p) = false
+-- Change Master Key
+unfoldable pub isChange : List ℕ → Bool
+isChange c = both (eqb (codeOf c) protocolOut) (eqb (pageOf c) changeMaster)
 
-abbrev pub isMaster : Need → Bool
-isMaster Unknown = false
-isMaster Open = false
-isMaster (Bits p) = false
-isMaster (Master p) = true
+-- the CDB alone
+unfoldable pub isBare : List ℕ → Bool
+isBare c = eqb (length c) (cdbLen (codeOf c))
 
--- the permission bits that are needed
-abbrev pub bitsNeeded : Need → ℕ
-bitsNeeded Unknown = 0
-bitsNeeded Open = 0
-bitsNeeded (Bits p) = p
-bitsNeeded (Master p) = p
+-- of a wrapped one, the descriptor and the integrity check value
+unfoldable pub descriptorOf : List ℕ → List ℕ
+descriptorOf c = part (cdbLen (codeOf c)) 58 c
+
+unfoldable pub checkValueOf : List ℕ → List ℕ
+checkValueOf c = part (cdbLen (codeOf c) + 58) 20 c
+
+-- what the code works out of a command once, and hands on
+abbrev pub factsOf : List ℕ → Facts
+factsOf c = record { code = codeOf c; page = pageOf c; need = needFor c }

@@ -4,7 +4,7 @@ use mathlib.Core.Bool.{Bool}
 use mathlib.Core.List.{List, [], _∷_, _++_}
 use lib.Dec.{eqb, ltb}
 use Rattle.choice.specs.Choice.{both, either, pick}
-use Rattle.model.specs.Rows.{Needs, isOpen, bits, master, Row, rows}
+use Rattle.model.specs.Rows.{Needs, open-row, permission, master-row, Row, rows}
 
 -- does the row come before the other, by code and then page?
 abbrev pub precedes : Row → Row → Bool
@@ -22,22 +22,22 @@ unfoldable pub ascending : List Row
 ascending = sorted rows
 
 abbrev pub permissionByte : Needs → ℕ
-permissionByte isOpen = 0x00
-permissionByte (bits p) = p
-permissionByte (master p) = p
+permissionByte open-row = 0x00
+permissionByte (permission p) = p
+permissionByte (master-row p) = p
 
 abbrev pub masterByte : Needs → ℕ
-masterByte isOpen = 0x00
-masterByte (bits p) = 0x00
-masterByte (master p) = 0x01
+masterByte open-row = 0x00
+masterByte (permission p) = 0x00
+masterByte (master-row p) = 0x01
 
 -- code, 00h, page (big-endian), permission byte, 01h for master else 00h
 abbrev pub rowBytes : Row → List ℕ
 rowBytes r = r .code ∷ 0x00 ∷ r .page / 256 ∷ r .page % 256 ∷ permissionByte (r .needs) ∷ masterByte (r .needs) ∷ []
 
-abbrev pub bytesOf : List Row → List ℕ
-bytesOf [] = []
-bytesOf (r ∷ rs) = rowBytes r ++ bytesOf rs
+abbrev pub rowsBytes : List Row → List ℕ
+rowsBytes [] = []
+rowsBytes (r ∷ rs) = rowBytes r ++ rowsBytes rs
 
 unfoldable pub controlled : List ℕ
-controlled = bytesOf ascending
+controlled = rowsBytes ascending

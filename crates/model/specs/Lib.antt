@@ -4,8 +4,12 @@ pub mod AmongLaws
 -- answers
 pub mod Paper
 pub mod PaperLaws
+pub mod Answers
+pub mod AnswerLaws
 pub mod Refusal
+pub mod RefusalLaws
 -- commands
+pub mod Protocol
 pub mod Rows
 pub mod RowLaws
 pub mod Codes
@@ -14,4 +18,3 @@ pub mod Totals
 -- IN page 0013h
 pub mod Controlled
 pub mod ControlledLaws
-pub mod Edges

@@ -18,7 +18,7 @@ abbrev answer : No → List ℕ → Paper
 answer n vs = record { no = n; values = vs }
 
 -- A0: status, reply byte count; A1: slot; A2: status; A3: status, sense key, additional code, qualifier, reason; A4: status
-unfoldable pub paperOf : Answer → Paper
+abbrev pub paperOf : Answer → Paper
 paperOf (Good count) = answer (A 0) (0x00 ∷ count ∷ [])
 paperOf (Parked slot) = answer (A 1) (slot .0 ∷ [])
 paperOf Run = answer (A 2) (0x00 ∷ [])

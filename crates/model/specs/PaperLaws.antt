@@ -29,7 +29,7 @@ pub answerOf : Paper → Answer
 answerOf p = read (p .no) (p .values)
 
 pub answer-back : (a : Answer) → answerOf (paperOf a) ≡ a
-unfolding paperOf answerOf read readA readH
+unfolding answerOf read readA readH
 answer-back (Good count) = refl
 answer-back (Parked slot) = refl
 answer-back Run = refl

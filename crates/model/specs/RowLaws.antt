@@ -1,58 +1,31 @@
--- Laws of the rows: what a table's entry tells of a command, and that a code which no row has is unknown.
+-- Laws of the rows: what a table's entry tells of a command, and what tells whether a code is listed.
 use Prim.Native.Nat.{ℕ}
 use mathlib.Core.Path.{_≡_, refl, sym, ap, _∙_}
 use mathlib.Core.Bool.{Bool, true, false, not}
 use mathlib.Core.List.{List, [], _∷_, map}
 use native.Mathlib.Omega.{arith}
 use lib.Dec.{eqb, ltb}
-use lib.ListN.{length}
 use borrow.Author.Tests.{ltb-true, eqb-true, ne-eqb}
 use Rattle.choice.specs.Choice.{both, either, pick}
-use Rattle.choice.specs.ChoiceLaws.{both-true, either-false}
+use Rattle.choice.specs.ChoiceLaws.{both-true}
 use Rattle.model.specs.Among.{isIn}
-use Rattle.model.specs.Rows.{Needs, isOpen, bits, master, Row, rows, byPage, listed, entryFor, entryIn, entryOf, needFor, needIn, needOf}
+use Rattle.model.specs.AmongLaws.{all-at}
+use Rattle.model.specs.Protocol.{protocolIn, protocolOut}
+use Rattle.model.specs.Rows.{Needs, open-row, permission, master-row, Row, rows, byPage, listed, entryFor, entryIn, entryOf, needBy, needIn, needOf, isUnknown}
 use Rattle.model.specs.declared.Need.{Need}
 use Rattle.model.specs.declared.Need.the-variants.{Unknown, Open, Bits}
 
-pub rows-count : length rows ≡ 31
-unfolding rows
-rows-count = refl
-
 codes : List Row → List ℕ
 codes rs = map (λ (r : Row). r .code) rs
-
--- ---- a code that no row has
-
-none-entry : (rs : List Row) (code : ℕ) → isIn (codes rs) code ≡ false → entryIn rs code ≡ 0
-unfolding codes
-none-entry [] code h = refl
-none-entry (r ∷ rs) code h =
-    let k = either-false (eqb code (r .code)) (isIn (codes rs) code) h in
-    rw (k .0) (none-entry rs code (k .1))
-
-none-need : (rs : List Row) (code page : ℕ) → isIn (codes rs) code ≡ false → needIn rs code page ≡ Unknown
-unfolding codes
-none-need [] code page h = refl
-none-need (r ∷ rs) code page h =
-    let k = either-false (eqb code (r .code)) (isIn (codes rs) code) h in
-    rw (k .0) (none-need rs code page (k .1))
-
-pub unlisted-entry : (code : ℕ) → listed code ≡ false → entryOf code ≡ 0
-unfolding listed entryOf codes
-unlisted-entry code h = none-entry rows code h
-
-pub unlisted-need : (code page : ℕ) → listed code ≡ false → needOf code page ≡ Unknown
-unfolding listed needOf codes
-unlisted-need code page h = none-need rows code page h
 
 -- ---- what an entry tells
 
 -- is a row told by its entry? It is open, or asks for permission bits alone, and their byte is none of 0, 1, 2
 
 abbrev plain : Needs → Bool
-plain isOpen = true
-plain (bits p) = ltb 2 p
-plain (master p) = false
+plain open-row = true
+plain (permission p) = ltb 2 p
+plain (master-row p) = false
 
 -- does each row go by page, or is told by its entry?
 abbrev told : List Row → Bool
@@ -64,11 +37,11 @@ known-step :
     not (eqb (pick here (pick paged 2 (entryFor n)) e) 0) ≡ either here l
 known-step false paged n e l h k = k
 known-step true true n e l h k = refl
-known-step true false isOpen e l h k = refl
-known-step true false (bits p) e l h k =
+known-step true false open-row e l h k = refl
+known-step true false (permission p) e l h k =
     let big = ltb-true 2 p h in
     rw (ne-eqb p 0 (λ z. omega arith))
-known-step true false (master p) e l h k = cc
+known-step true false (master-row p) e l h k = cc
 
 known-in : (rs : List Row) → told rs ≡ true → (code : ℕ) → not (eqb (entryIn rs code) 0) ≡ isIn (codes rs) code
 unfolding codes
@@ -87,15 +60,15 @@ byEntry e w = pick (eqb e 0) Unknown (pick (eqb e 1) Open (pick (eqb e 2) w (Bit
 
 need-step :
     (here paged that : Bool) (n : Needs) (e : ℕ) (w : Need) → either paged (plain n) ≡ true → w ≡ byEntry e w →
-    let v = pick (both here (either (not paged) that)) (needFor n) w in
+    let v = pick (both here (either (not paged) that)) (needBy n) w in
     v ≡ byEntry (pick here (pick paged 2 (entryFor n)) e) v
 need-step false paged that n e w h k = k
 need-step true true that n e w h k = refl
-need-step true false that isOpen e w h k = refl
-need-step true false that (bits p) e w h k =
+need-step true false that open-row e w h k = refl
+need-step true false that (permission p) e w h k =
     let big = ltb-true 2 p h in
     rw (ne-eqb p 0 (λ z. omega arith), ne-eqb p 1 (λ z. omega arith), ne-eqb p 2 (λ z. omega arith))
-need-step true false that (master p) e w h k = cc
+need-step true false that (master-row p) e w h k = cc
 
 need-in : (rs : List Row) → told rs ≡ true → (code page : ℕ) → needIn rs code page ≡ byEntry (entryIn rs code) (needIn rs code page)
 need-in [] t code page = refl
@@ -109,9 +82,9 @@ unfolding rows entryOf needOf
 need-by-entry code page = need-in rows refl code page
 
 not-two : (n : Needs) → plain n ≡ true → entryFor n ≡ 2 → ⊥
-not-two isOpen h e = omega arith
-not-two (bits p) h e = let big = ltb-true 2 p h in omega arith
-not-two (master p) h e = let z : _≡_ {A = ℕ} 0 1 = cc in omega arith
+not-two open-row h e = omega arith
+not-two (permission p) h e = let big = ltb-true 2 p h in omega arith
+not-two (master-row p) h e = let z : _≡_ {A = ℕ} 0 1 = cc in omega arith
 
 two-step :
     (r : Row) (code rest : ℕ) (here paged : Bool) → eqb code (r .code) ≡ here → byPage (r .code) ≡ paged →
@@ -140,3 +113,36 @@ page-ignored code p q h = need-by-entry code p ∙ entry-decides (entryOf code) 
   where
     other : entryOf code ≡ 2 → ⊥
     other e = let b = entry-by-page code e in let z : _≡_ {A = ℕ} 0 1 = cc in omega arith
+
+-- a code is listed where it goes by page, or where what it needs is known, whatever the page
+known-by-entry : (e : ℕ) (w : Need) → eqb e 2 ≡ false → not (isUnknown (byEntry e w)) ≡ not (eqb e 0)
+known-by-entry e w h = go (eqb e 0) (eqb e 1) (eqb e 2) h
+  where
+    go : (a b c : Bool) → c ≡ false → not (isUnknown (pick a Unknown (pick b Open (pick c w (Bits e))))) ≡ not a
+    go true b c k = refl
+    go false true c k = refl
+    go false false true k = cc
+    go false false false k = refl
+
+paged-listed : (code : ℕ) → byPage code ≡ true → listed code ≡ true
+unfolding listed rows
+paged-listed code h = all-at listed (protocolIn ∷ protocolOut ∷ []) refl code h
+
+pub listed-by-need : (code page : ℕ) → either (byPage code) (not (isUnknown (needOf code page))) ≡ listed code
+listed-by-need code page = go (byPage code) refl
+  where
+    go : (b : Bool) → byPage code ≡ b → either b (not (isUnknown (needOf code page))) ≡ listed code
+    go true e = sym (paged-listed code e)
+    go false e =
+        ap (λ (w : Need). not (isUnknown w)) (need-by-entry code page)
+        ∙ known-by-entry (entryOf code) (needOf code page) (ne-eqb (entryOf code) 2 (λ two. let b = entry-by-page code two in let z : _≡_ {A = ℕ} 0 1 = cc in omega arith))
+        ∙ entry-listed code
+
+-- of the two codes that go by page, one that is not IN is OUT
+pub page-code : (code : ℕ) → byPage code ≡ true → (code ≡ protocolIn → ⊥) → code ≡ protocolOut
+page-code code e n = go (eqb code protocolIn) (eqb code protocolOut) (λ q. eqb-true code protocolIn q) (λ q. eqb-true code protocolOut q) e
+  where
+    go : (a b : Bool) → (a ≡ true → code ≡ protocolIn) → (b ≡ true → code ≡ protocolOut) → either a (either b false) ≡ true → code ≡ protocolOut
+    go true b p q k = absurd (n (p refl))
+    go false true p q k = q refl
+    go false false p q k = let z : _≡_ {A = ℕ} 0 1 = cc in absurd (omega arith)

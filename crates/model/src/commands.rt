@@ -1,7 +1,20 @@
 // What a command of each operation code needs (document 01, "Commands and what they need").
 ghost use mathlib.Core.Path.{_≡_};
-ghost use Rattle.model.specs.Rows.{entryOf, listed, needOf, pageNeed};
+ghost use mathlib.Core.Bool.{true};
+ghost use Rattle.model.specs.Rows.{byPage, entryOf, needOf, isUnknown, isOpenRow, isMaster};
+use crate::ATTRIBUTES_IN;
+use crate::CAPABILITIES_IN;
+use crate::CHANGE_MASTER;
+use crate::CONTROLLED_IN;
 use crate::Need;
+use crate::PAGES_OF_IN;
+use crate::PAGES_OF_OUT;
+use crate::PROTOCOL_IN;
+use crate::PROTOCOL_OUT;
+use crate::SEED_EXCHANGE;
+use crate::SEED_IN;
+use crate::SET_ATTRIBUTES;
+use crate::SET_KEY;
 
 // For each operation code: 0 unknown, 1 open, 2 by page, else the permission byte. A listed code stands beside its entry.
 const COMMANDS: [u8; 256] = [
@@ -280,60 +293,59 @@ const COMMANDS: [u8; 256] = [
 ];
 
 // What the table holds for a code.
-pub fn entry(code: u8) -> u8
+fn entry(code: u8) -> u8
     ensures { λ r. ⌜ r ≡ entryOf code ⌝ }
 {
     COMMANDS[code as usize]
 }
 
-// Does any row have this code?
-pub fn known(code: u8) -> bool
-    ensures { λ r. ⌜ r ≡ listed code ⌝ }
-{
-    entry(code) != 0
-}
-
-// What SECURITY PROTOCOL IN (A2h) needs for a page.
+// What SECURITY PROTOCOL IN needs for a page.
 fn in_page_need(page: u32) -> Need
     ensures { λ r. ⌜ r ≡ needOf 0xA2 page ⌝ }
 {
     match page {
-        0x0000 => Need::Open,
-        0x0001 => Need::Open,
-        0x0010 => Need::Open,
-        0x0013 => Need::Open,
-        0x0011 => Need::Bits(0x20),
-        0x0012 => Need::Master(0x08),
+        PAGES_OF_IN => Need::Open,
+        PAGES_OF_OUT => Need::Open,
+        CAPABILITIES_IN => Need::Open,
+        CONTROLLED_IN => Need::Open,
+        ATTRIBUTES_IN => Need::Bits(0x20),
+        SEED_IN => Need::Master(0x08),
         _ => Need::Unknown,
     }
 }
 
-// What SECURITY PROTOCOL OUT (B5h) needs for a page.
+// What SECURITY PROTOCOL OUT needs for a page.
 fn out_page_need(page: u32) -> Need
     ensures { λ r. ⌜ r ≡ needOf 0xB5 page ⌝ }
 {
     match page {
-        // Set Attributes
-        0x0011 => Need::Master(0x08),
-        // Seed Exchange
-        0x0012 => Need::Master(0x08),
-        // Set Key
-        0x0014 => Need::Master(0x08),
-        // Change Master Key
-        0x0015 => Need::Master(0x08),
+        SET_ATTRIBUTES => Need::Master(0x08),
+        SEED_EXCHANGE => Need::Master(0x08),
+        SET_KEY => Need::Master(0x08),
+        CHANGE_MASTER => Need::Master(0x08),
         _ => Need::Unknown,
     }
 }
 
-// What a command of a code that goes by page needs; Unknown for an unlisted page and for any other code.
-pub fn page_need(code: u8, page: u32) -> Need
-    ensures { λ r. ⌜ r ≡ pageNeed code page ⌝ }
+// Does the code go by page?
+pub fn by_page(code: u8) -> bool
+    ensures { λ r. ⌜ r ≡ byPage code ⌝ }
 {
     match code {
-        0xA2 => in_page_need(page),
-        0xB5 => out_page_need(page),
-        _ => Need::Unknown,
+        PROTOCOL_IN | PROTOCOL_OUT => true,
+        _ => false,
     }
+}
+
+// What a command of a code that goes by page needs; Unknown for an unlisted page.
+fn page_need(code: u8, page: u32) -> Need
+    requires { ⌜ byPage code ≡ true ⌝ }
+    ensures { λ r. ⌜ r ≡ needOf code page ⌝ }
+{
+    if code == PROTOCOL_IN {
+        return in_page_need(page);
+    }
+    out_page_need(page)
 }
 
 // What a command needs. The page counts only for a code that goes by page.
@@ -346,5 +358,41 @@ pub fn need_of(code: u8, page: u32) -> Need
         1 => Need::Open,
         2 => page_need(code, page),
         _ => Need::Bits(e),
+    }
+}
+
+// Is what it needs unknown?
+pub fn is_unknown(n: Need) -> bool
+    ensures { λ r. ⌜ r ≡ isUnknown n ⌝ }
+{
+    match n {
+        Need::Unknown => true,
+        Need::Open => false,
+        Need::Bits(_) => false,
+        Need::Master(_) => false,
+    }
+}
+
+// Does it run without papers?
+pub fn is_open_row(n: Need) -> bool
+    ensures { λ r. ⌜ r ≡ isOpenRow n ⌝ }
+{
+    match n {
+        Need::Unknown => false,
+        Need::Open => true,
+        Need::Bits(_) => false,
+        Need::Master(_) => false,
+    }
+}
+
+// Does it need the master key?
+pub fn is_master(n: Need) -> bool
+    ensures { λ r. ⌜ r ≡ isMaster n ⌝ }
+{
+    match n {
+        Need::Unknown => false,
+        Need::Open => false,
+        Need::Bits(_) => false,
+        Need::Master(_) => true,
     }
 }

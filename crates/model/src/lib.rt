@@ -2,15 +2,43 @@
 mod commands;
 mod controlled;
 
-pub use commands::entry;
-pub use commands::known;
+pub use commands::by_page;
+pub use commands::is_master;
+pub use commands::is_open_row;
+pub use commands::is_unknown;
 pub use commands::need_of;
-pub use commands::page_need;
 pub use controlled::controlled_at;
 ghost use mathlib.Core.Path.{_≡_};
 ghost use Rattle.model.specs.Codes.{cdbLen, dataOut, legalLen};
 ghost use Rattle.model.specs.Refusal.{senseKey, additionalCode, refusal};
 ghost use Rattle.model.specs.Totals.{totalOf};
+
+// SECURITY PROTOCOL IN and OUT.
+pub const PROTOCOL_IN: u8 = 0xA2;
+
+pub const PROTOCOL_OUT: u8 = 0xB5;
+
+// The pages of IN.
+pub const PAGES_OF_IN: u32 = 0x0000;
+
+pub const PAGES_OF_OUT: u32 = 0x0001;
+
+pub const CAPABILITIES_IN: u32 = 0x0010;
+
+pub const ATTRIBUTES_IN: u32 = 0x0011;
+
+pub const SEED_IN: u32 = 0x0012;
+
+pub const CONTROLLED_IN: u32 = 0x0013;
+
+// The pages of OUT.
+pub const SET_ATTRIBUTES: u32 = 0x0011;
+
+pub const SEED_EXCHANGE: u32 = 0x0012;
+
+pub const SET_KEY: u32 = 0x0014;
+
+pub const CHANGE_MASTER: u32 = 0x0015;
 
 // Three numbers that are never taken for one another.
 pub struct UnitNo(pub u32);
@@ -126,10 +154,10 @@ pub fn out_total(page: u32) -> u32
     ensures { λ r. ⌜ r ≡ totalOf page ⌝ }
 {
     match page {
-        0x0011 => 12,
-        0x0014 => 28,
-        0x0012 => 264,
-        0x0015 => 4,
+        SET_ATTRIBUTES => 12,
+        SET_KEY => 28,
+        SEED_EXCHANGE => 264,
+        CHANGE_MASTER => 4,
         _ => 0,
     }
 }

@@ -7,8 +7,7 @@ use lib.ListN.{getD}
 use Rattle.choice.specs.Choice.{pick}
 use Rattle.model.specs.Paper.{No, A, H, Paper, paperOf}
 use Rattle.model.specs.declared.Answer.{Answer}
-use Rattle.calls.specs.Outcome.{Out}
-use Rattle.calls.specs.Lent.{Lent, Outcome}
+use Rattle.calls.specs.Outcome.{TableOutcome, Lent, Outcome}
 
 -- bits 0-7 the answer, 8-15 status, 16-23 sense key, 24-31 additional code, 32-39 qualifier, 40-47 reason, 48-57 count or slot
 unfoldable pub word : ℕ → ℕ → ℕ → ℕ → ℕ → ℕ → ℕ → ℕ
@@ -49,5 +48,5 @@ pub record ReturnedOne : Type 0 where
 abbrev pub returnedOne : ℕ → List ℕ → ReturnedOne
 returnedOne r t = record { result = r; table = t }
 
-abbrev pub packedOne : Out → ReturnedOne
+abbrev pub packedOne : TableOutcome → ReturnedOne
 packedOne o = returnedOne (packedPaper (o .answer)) (o .table)

@@ -3,8 +3,7 @@ use mathlib.Core.Path.{_≡_, ap, _∙_}
 use mathlib.Core.List.{List}
 use Prim.Native.Nat.{ℕ}
 use Rattle.model.specs.declared.Answer.{Answer}
-use Rattle.calls.specs.Outcome.{Out, out}
-use Rattle.calls.specs.Lent.{Lent, Outcome, gives}
+use Rattle.calls.specs.Outcome.{TableOutcome, leaves, Lent, Outcome, gives}
 use Rattle.nectarnook.specs.Packed.{packed, returned, packedOut, returnedOne, packedOne}
 
 -- ---- a call made and its answer packed
@@ -12,5 +11,5 @@ use Rattle.nectarnook.specs.Packed.{packed, returned, packedOut, returne
 pub out-packed : (r : ℕ) (a : Answer) (l : Lent) (o : Outcome) → r ≡ packed a → gives a l ≡ o → returned r l ≡ packedOut o
 out-packed r a l o h e = ap (λ (x : ℕ). returned x l) h ∙ ap packedOut e
 
-pub one-packed : (r : ℕ) (a : Answer) (t : List ℕ) (o : Out) → r ≡ packed a → out a t ≡ o → returnedOne r t ≡ packedOne o
+pub one-packed : (r : ℕ) (a : Answer) (t : List ℕ) (o : TableOutcome) → r ≡ packed a → leaves a t ≡ o → returnedOne r t ≡ packedOne o
 one-packed r a t o h e = ap (λ (x : ℕ). returnedOne x t) h ∙ ap packedOne e

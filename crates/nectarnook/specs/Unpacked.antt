@@ -3,15 +3,17 @@
 use Prim.{Unit}
 use mathlib.Core.Path.{_≡_, sym, ap, _∙_}
 use mathlib.Core.List.{List, [], _∷_}
-use Prim.Native.Nat.{ℕ, _-_, _/_, _%_, _^_, _<_}
+use Prim.Native.Nat.{ℕ, _+_, _-_, _/_, _%_, _^_, _<_}
+use native.Mathlib.Nat.{add-sub-cancel-left}
 use native.Mathlib.Omega.{arith}
 use lib.Dec.{eqb}
+use borrow.Author.Tests.{ne-eqb}
 use Rattle.choice.specs.Choice.{pick}
 use Rattle.model.specs.Paper.{No, A, H, Paper, paperOf}
 use Rattle.model.specs.PaperLaws.{paper-apart}
 use Rattle.model.specs.declared.Answer.{Answer}
-use Rattle.model.specs.declared.Answer.the-variants.{Good, Parked, Run, Check, Full, H1, H2, H3, H4, H5}
-use Rattle.nectarnook.specs.Packed.{word, packedBy, packed}
+use Rattle.model.specs.AnswerLaws.{answer-cases}
+use Rattle.nectarnook.specs.Packed.{word, packedBy, packedPaper, packed}
 
 -- ---- the fields
 
@@ -97,35 +99,37 @@ read-word a s k c q e n ha hs hk hc hq he hn =
       count-back a s k c q e n ha hs hk hc hq he hn,
     )
 
--- do the values fit their places?
+-- do the values fit their places? Those of A3 are bytes, a count or a slot has ten bits
+abbrev pub limit : No → ℕ
+limit (A n) = pick (eqb n 3) 256 1024
+limit (H n) = 0
+
+abbrev pub AllBelow : ℕ → List ℕ → Type 0
+AllBelow b [] = Unit
+AllBelow b (v ∷ vs) = (v < b) × AllBelow b vs
+
 abbrev pub Fits : Answer → Type 0
-Fits (Good count) = count < 1024
-Fits (Parked slot) = slot .0 < 1024
-Fits (Check s) = (s .key < 256) × (s .code < 256) × (s .qualifier < 256) × (s .reason < 256)
-Fits Run = Unit
-Fits Full = Unit
-Fits H1 = Unit
-Fits H2 = Unit
-Fits H3 = Unit
-Fits H4 = Unit
-Fits H5 = Unit
+Fits a = AllBelow (limit (paperOf a .no)) (paperOf a .values)
 
 plain-word : (a s n : ℕ) → a < 256 → s < 256 → n < 1024 → paperIn (word a s 0 0 0 0 n) ≡ readAs a s 0 0 0 0 n
 plain-word a s n ha hs hn = read-word a s 0 0 0 0 n ha hs (omega arith) (omega arith) (omega arith) (omega arith) hn
 
+h-word : (n : ℕ) → n < 16 → paperIn (packedPaper (paper (H n) [])) ≡ paper (H n) []
+unfolding packedBy readAs
+h-word n h =
+    plain-word (0x10 + n) 0 0 (omega arith) (omega arith) (omega arith)
+    ∙ rw (ne-eqb (0x10 + n) 0 (λ e. omega arith), ne-eqb (0x10 + n) 1 (λ e. omega arith), ne-eqb (0x10 + n) 2 (λ e. omega arith), ne-eqb (0x10 + n) 3 (λ e. omega arith), ne-eqb (0x10 + n) 4 (λ e. omega arith), add-sub-cancel-left 0x10 n)
+
 pub paper-back : (a : Answer) → Fits a → paperIn (packed a) ≡ paperOf a
-unfolding packedBy paperOf readAs
-paper-back (Good count) h = plain-word 0 0 count (omega arith) (omega arith) h
-paper-back (Parked slot) h = plain-word 1 0 (slot .0) (omega arith) (omega arith) h
-paper-back Run h = plain-word 2 0 0 (omega arith) (omega arith) (omega arith)
-paper-back (Check s) h =
-    read-word 3 2 (s .key) (s .code) (s .qualifier) (s .reason) 0 (omega arith) (omega arith) (h .0) (h .1) (h .2) (h .3) (omega arith)
-paper-back Full h = plain-word 4 0x28 0 (omega arith) (omega arith) (omega arith)
-paper-back H1 h = plain-word 0x11 0 0 (omega arith) (omega arith) (omega arith)
-paper-back H2 h = plain-word 0x12 0 0 (omega arith) (omega arith) (omega arith)
-paper-back H3 h = plain-word 0x13 0 0 (omega arith) (omega arith) (omega arith)
-paper-back H4 h = plain-word 0x14 0 0 (omega arith) (omega arith) (omega arith)
-paper-back H5 h = plain-word 0x15 0 0 (omega arith) (omega arith) (omega arith)
+unfolding packedBy readAs
+paper-back =
+    answer-cases (λ (a : Answer). Fits a → paperIn (packed a) ≡ paperOf a)
+    (λ count h. plain-word 0 0 count (omega arith) (omega arith) (h .1 .0))
+    (λ slot h. plain-word 1 0 (slot .0) (omega arith) (omega arith) (h .0))
+    (λ h. plain-word 2 0 0 (omega arith) (omega arith) (omega arith))
+    (λ s h. read-word 3 2 (s .key) (s .code) (s .qualifier) (s .reason) 0 (omega arith) (omega arith) (h .1 .0) (h .1 .1 .0) (h .1 .1 .1 .0) (h .1 .1 .1 .1 .0) (omega arith))
+    (λ h. plain-word 4 0x28 0 (omega arith) (omega arith) (omega arith))
+    (λ a n small e h. ap (λ (p : Paper). paperIn (packedPaper p)) e ∙ h-word n small ∙ sym e)
 
 -- two answers with one number are the same answer
 pub packed-apart : (a b : Answer) → Fits a → Fits b → packed a ≡ packed b → a ≡ b

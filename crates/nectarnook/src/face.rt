@@ -7,7 +7,8 @@ use model::UnitNo;
 ghost use mathlib.Core.Path.{_≡_};
 ghost use Rattle.calls.specs.Build.{buildOut};
 ghost use Rattle.calls.specs.Slots.{abortOut, resetOut};
-ghost use Rattle.calls.specs.Lent.{lent};
+ghost use Rattle.calls.specs.Outcome.{lent, tables};
+ghost use Rattle.calls.specs.Whole.{asked};
 ghost use Rattle.calls.specs.Open.{openOut};
 ghost use Rattle.calls.specs.Close.{closeOut};
 ghost use Rattle.nectarnook.specs.Packed.{word, packed, returned, packedOut, returnedOne, packedOne};
@@ -91,7 +92,7 @@ pub extern "C" fn nn_open(
     token: &[u8],
     clock: u64,
 ) -> u64
-    ensures { λ r. ⌜ returned r (lent (now (units .exit)) (now (slots .exit)) (now (reply .exit))) ≡ packedOut (openOut (lent (now (units .entry)) (now (slots .entry)) (now (reply .entry))) unit (now (command .entry)) (now (token .entry)) clock) ⌝ }
+    ensures { λ r. ⌜ returned r (lent (tables (now (units .exit)) (now (slots .exit))) (now (reply .exit))) ≡ packedOut (openOut (lent (tables (now (units .entry)) (now (slots .entry))) (now (reply .entry))) (asked unit (now (command .entry)) (now (token .entry))) clock) ⌝ }
 {
     let made = calls::open(units, slots, reply, UnitNo(unit), command, token, clock);
     let answer = made.answer;
@@ -108,7 +109,7 @@ pub extern "C" fn nn_close(
     list: &[u8],
     clock: u64,
 ) -> u64
-    ensures { λ r. ⌜ returned r (lent (now (units .exit)) (now (slots .exit)) (now (reply .exit))) ≡ packedOut (closeOut (lent (now (units .entry)) (now (slots .entry)) (now (reply .entry))) slot (now (list .entry)) clock) ⌝ }
+    ensures { λ r. ⌜ returned r (lent (tables (now (units .exit)) (now (slots .exit))) (now (reply .exit))) ≡ packedOut (closeOut (lent (tables (now (units .entry)) (now (slots .entry))) (now (reply .entry))) slot (now (list .entry)) clock) ⌝ }
 {
     let made = calls::close(units, slots, reply, SlotNo(slot), list, clock);
     let answer = made.answer;

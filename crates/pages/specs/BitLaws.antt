@@ -3,12 +3,15 @@ use mathlib.Core.Path.{_≡_, refl, sym, ap, _∙_}
 use mathlib.Core.Bool.{Bool, true, false}
 use Prim.Native.Nat.{ℕ, suc, _+_, _-_, _*_, _/_, _%_, _^_, _<_}
 use native.Mathlib.Omega.{arith}
-use native.Mathlib.Nat.{mul-one, mul-assoc, pow-succ', add-mul-div-left, add-mul-mod-self-left, div-div-eq-div-mul}
+use native.Mathlib.Nat.{mul-one, mul-assoc, pow-succ', add-mul-div-left, add-mul-mod-self-left, div-div-eq-div-mul, pow-le-pow-right}
 use lib.Dec.{eqb, ltb}
 use lib.Pow.{pow-pos, pow-add, shr-shr}
 use borrow.Author.Tests.{ltb-true, ltb-false, eqb-true, eqb-false}
 use Rattle.wire.specs.Bytes.{number, bytesOf}
 use Rattle.pages.specs.Effects.{withBit}
+
+even : (q : ℕ) → (q % 2 ≡ 1 → ⊥) → q % 2 ≡ 0
+even q k = omega arith
 
 -- a multiple of a higher power leaves bit w as it was
 bit-under : (w d x k : ℕ) → (x + 2 ^ (w + suc d) * k) / 2 ^ w % 2 ≡ x / 2 ^ w % 2
@@ -44,14 +47,23 @@ module _ (v w x : ℕ) (clear : x / 2 ^ v % 2 ≡ 0) (other : w ≡ v → ⊥) w
   bit-other : (x + 2 ^ v) / 2 ^ w % 2 ≡ x / 2 ^ w % 2
   bit-other = by-order (ltb w v) (ltb v w) refl refl
 
+-- ---- what the code's shift and sum keep
+
+pub bit-shifted : (v : ℕ) → v < 16 → 1 * 2 ^ v % 4294967296 ≡ 2 ^ v
+bit-shifted v h = let k = pow-le-pow-right {n = 2} (omega arith) {i = v} {j = 15} (omega arith) in omega arith
+
+-- a clear bit can be added to a number of 32 bits
+pub bit-fits : (v m : ℕ) → v < 16 → m < 2 ^ 32 → (m / 2 ^ v % 2 ≡ 1 → ⊥) → m + 2 ^ v < 2 ^ 32
+bit-fits v m h k clear =
+    let n : v + suc (31 - v) ≡ 32 = omega arith in
+    let e : (m + 2 ^ v) / 2 ^ 32 ≡ m / 2 ^ 32 = rw n at (bit-over v (31 - v) m (even (m / 2 ^ v) clear)) in
+    omega arith
+
 -- ---- the mask with bit v set
 
 module _ (v m : ℕ) where
   unset : eqb (m / 2 ^ v % 2) 1 ≡ false → m / 2 ^ v % 2 ≡ 0
-  unset e = let k : m / 2 ^ v % 2 ≡ 1 → ⊥ = eqb-false (m / 2 ^ v % 2) 1 e in odd (m / 2 ^ v) k
-    where
-      odd : (q : ℕ) → (q % 2 ≡ 1 → ⊥) → q % 2 ≡ 0
-      odd q k = omega arith
+  unset e = even (m / 2 ^ v) (eqb-false (m / 2 ^ v % 2) 1 e)
 
   here : (b : Bool) → eqb (m / 2 ^ v % 2) 1 ≡ b → withBit v m / 2 ^ v % 2 ≡ 1
   unfolding withBit

@@ -1,4 +1,4 @@
--- What each effect leaves of a unit's record (document 01, "Pages", Effects): its length, soundness at the same place, and every field.
+-- What each effect leaves of a record (document 01, "Pages", Effects): its length, soundness at the same place, and every field.
 use mathlib.Core.Path.{_≡_, refl, sym, ap, _∙_}
 use mathlib.Core.Logic.{_⊎_, inl, inr}
 use mathlib.Core.Bool.{Bool, true, false}
@@ -21,9 +21,10 @@ use Rattle.hmac.specs.HmacLaws.{hmac-length, sha1-lawful}
 use Rattle.md.specs.Padding.{blockCount}
 use Rattle.units.specs.declared.UnitState.the-variants.{Used}
 use Rattle.units.specs.Unit.{method, mask, policyTag, step, identifier, authKey, genKey, nextAuthKey, nextGenKey, nextPairZero, workingKey, isValid, unitStateOf}
-use Rattle.pages.specs.Out.{newMethod, newTag, newVersion, seed, agreed, wrongList}
-use Rattle.pages.specs.Effects.{attributesSet, withBit, workingKeySet, nextAuth, nextGen, exchanged, changed, newRecord}
-use Rattle.pages.specs.OutLaws.{part-length, right-method, right-version}
+use Rattle.model.specs.Protocol.{seedExchange, setKey, changeMaster}
+use Rattle.pages.specs.Out.{newVersion, seed, agreed, wrongList}
+use Rattle.pages.specs.Effects.{attributesSet, withBit, workingKeySet, nextAuth, nextGen, exchanged, changed, newKeys}
+use Rattle.pages.specs.OutLaws.{part-length, right-version}
 use Rattle.pages.specs.BitLaws.{with-here, with-other, bytes-bit}
 use Rattle.pages.specs.RecordLaws.{Alike, alike-trans, alike-number, alike-zeros, alike-part, narrow, patch-alike, Twice, twice-holds}
 use Rattle.pages.specs.FieldLaws.{ValidOrZero, Shape, shape-of, SameFrame, SamePolicy, SameMaster, SameNext, SameWorking, same-frame, same-policy, same-master, same-next, same-working, used-kept, known-kept, pending-kept, pair-kept, keys-kept}
@@ -349,27 +350,27 @@ module _ (rec : List ℕ) (full : length rec ≡ 512) where
       used-kept s (change .sealed) changed-frame (known-kept s changed-policy) (rw changed-step (omega arith)) (either-right (eqb (step (changed rec)) 1) (nextPairZero (changed rec)) pair-zero)
       (λ w h. either-right (isValid w (changed rec)) _ (key-zero w h))
 
--- ---- whatever the page: what holds of each effect holds of the record that the page leaves
+-- ---- whatever the page: what holds of each effect, and of the key set as it was, holds of the one that the page leaves
 
-module _ (page : ℕ) (d rec : List ℕ) where
+module _ (page : ℕ) (d keys : List ℕ) where
   picked : (P : List ℕ → Type 0) (x y : List ℕ) (p : ℕ) (b : Bool) → eqb page p ≡ b → (page ≡ p → P x) → P y → P (pick b x y)
   picked P x y p true e f g = f (eqb-true page p e)
   picked P x y p false e f g = g
 
-  new-holds : (P : List ℕ → Type 0) → (page ≡ 0x0011 → P (attributesSet (newMethod d) (newTag d) rec))
-      → (page ≡ 0x0014 → P (workingKeySet (newVersion d) (seed d) rec)) → P (exchanged (agreed d) rec) → P (changed rec) → P (newRecord page d rec)
-  unfolding newRecord
-  new-holds P a k e c =
-      picked P _ _ 0x0011 (eqb page 0x0011) refl a
-      (picked P _ _ 0x0014 (eqb page 0x0014) refl k (picked P _ _ 0x0012 (eqb page 0x0012) refl (λ h. e) c))
+  new-holds : (P : List ℕ → Type 0) → (page ≡ setKey → P (workingKeySet (newVersion d) (seed d) keys)) → P (exchanged (agreed d) keys) → P (changed keys)
+      → P keys → P (newKeys page d keys)
+  unfolding newKeys
+  new-holds P k e c same =
+      picked P _ _ setKey (eqb page setKey) refl k
+      (picked P _ _ seedExchange (eqb page seedExchange) refl (λ h. e) (picked P _ _ changeMaster (eqb page changeMaster) refl (λ h. c) same))
 
-  module _ (right : wrongList page d ≡ false) (full : length rec ≡ 512) where
-    pub new-length : length (newRecord page d rec) ≡ 512
+  module _ (right : wrongList page d ≡ false) (full : length keys ≡ 512) where
+    pub new-length : length (newKeys page d keys) ≡ 512
     new-length =
-        new-holds (λ (l : List ℕ). length l ≡ 512) (λ e. attributes-length (newMethod d) (newTag d) rec full)
-        (λ e. key-length (newVersion d) (seed d) rec (right-version page d e right) full) (exchanged-length (agreed d) rec full) (changed-length rec full)
+        new-holds (λ (l : List ℕ). length l ≡ 512) (λ e. key-length (newVersion d) (seed d) keys (right-version page d e right) full)
+        (exchanged-length (agreed d) keys full) (changed-length keys full) full
 
-    pub new-used : (u : ℕ) → unitStateOf u rec ≡ Used → unitStateOf u (newRecord page d rec) ≡ Used
+    pub new-used : (u : ℕ) → unitStateOf u keys ≡ Used → unitStateOf u (newKeys page d keys) ≡ Used
     new-used u sound =
-        new-holds (λ (l : List ℕ). unitStateOf u l ≡ Used) (λ e. attributes-used (newMethod d) (newTag d) rec full u (right-method page d e right) sound)
-        (λ e. key-used (newVersion d) (seed d) rec (right-version page d e right) full u sound) (exchanged-used (agreed d) rec full u sound) (changed-used rec full u sound)
+        new-holds (λ (l : List ℕ). unitStateOf u l ≡ Used) (λ e. key-used (newVersion d) (seed d) keys (right-version page d e right) full u sound)
+        (exchanged-used (agreed d) keys full u sound) (changed-used keys full u sound) sound

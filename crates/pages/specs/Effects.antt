@@ -1,18 +1,18 @@
--- What a GOOD Out page makes of a unit's record (document 01, "Pages", Effects): all that is not named is kept, and the check is made anew.
+-- What a GOOD Out page makes of a unit's attributes and of a key set (document 01, "Pages", Effects): all that is not named is kept, and the
+-- check is made anew.
 use mathlib.Core.List.{List, [], _∷_, _++_}
-use Prim.Native.Nat.{ℕ, _+_, _-_, _*_, _/_, _%_, _^_}
+use Prim.Native.Nat.{ℕ, _+_, _-_, _/_, _%_, _^_}
 use lib.Dec.{eqb}
-use lib.ListN.{replicate}
 use Rattle.choice.specs.Choice.{pick}
-use Rattle.wire.specs.Bytes.{bytesOf, patch}
 use Rattle.hmac.specs.Hmac.{hmac, bySha1}
 use Rattle.seal.specs.Seal.{seal}
-use Rattle.units.specs.Unit.{mask, identifier, genKey, nextAuthKey, nextGenKey}
-use Rattle.pages.specs.Out.{newMethod, newTag, newVersion, seed, agreed}
+use Rattle.model.specs.Protocol.{seedExchange, setKey, changeMaster}
+use Rattle.units.specs.Unit.{mask, identifier, genKey, nextAuthKey, nextGenKey, withMethod, withMask, withTag, withStep, withPair, withNextPair, withWorkingKey, withoutNextAndWorking}
+use Rattle.pages.specs.Out.{newVersion, seed, agreed}
 
 -- Set Attributes: method and tag
 unfoldable pub attributesSet : ℕ → ℕ → List ℕ → List ℕ
-attributesSet m t rec = seal (patch (patch rec 4 (bytesOf 2 m)) 8 (bytesOf 4 t))
+attributesSet m t rec = seal (withTag t (withMethod m rec))
 
 -- the mask with version v's bit set
 unfoldable pub withBit : ℕ → ℕ → ℕ
@@ -20,8 +20,7 @@ withBit v m = pick (eqb (m / 2 ^ v % 2) 1) m (m + 2 ^ v)
 
 -- Set Key: the working key is HMAC under the generation master key over the seed, and its mask bit is set
 unfoldable pub workingKeySet : ℕ → List ℕ → List ℕ → List ℕ
-workingKeySet v s rec =
-    seal (patch (patch rec 6 (bytesOf 2 (withBit v (mask rec)))) (112 + 20 * v) (hmac bySha1 (genKey rec) s))
+workingKeySet v s rec = seal (withWorkingKey v (hmac bySha1 (genKey rec) s) (withMask (withBit v (mask rec)) rec))
 
 -- the lowest bit of a byte inverted, and of a list's last byte
 abbrev pub flipped : ℕ → ℕ
@@ -42,17 +41,17 @@ nextAuth value rec = hmac bySha1 (genKey rec) (lastFlipped (value ++ identifier 
 
 -- Seed Exchange: the next pair, in the order that the record has, and step 1
 unfoldable pub exchanged : List ℕ → List ℕ → List ℕ
-exchanged value rec = seal (patch (patch rec 12 (bytesOf 4 1)) 72 (nextAuth value rec ++ nextGen value rec))
+exchanged value rec = seal (withNextPair (nextAuth value rec) (nextGen value rec) (withStep 1 rec))
 
 -- Change: next pair becomes the pair, next and working keys zero, mask 0, step 0
 unfoldable pub changed : List ℕ → List ℕ
-changed rec =
-    seal (patch (patch (patch (patch rec 6 (bytesOf 2 0)) 12 (bytesOf 4 0)) 32 (nextAuthKey rec ++ nextGenKey rec)) 72 (replicate 360 0))
+changed rec = seal (withoutNextAndWorking (withPair (nextAuthKey rec) (nextGenKey rec) (withStep 0 (withMask 0 rec))))
 
--- the record that the page with the parameter list d leaves
-unfoldable pub newRecord : ℕ → List ℕ → List ℕ → List ℕ
-newRecord page d rec =
-    pick (eqb page 0x0011) (attributesSet (newMethod d) (newTag d) rec)
-    (pick (eqb page 0x0014) (workingKeySet (newVersion d) (seed d) rec)
-    (pick (eqb page 0x0012) (exchanged (agreed d) rec)
-    (changed rec)))
+-- what a page with the parameter list d makes of a key set: Set Key, Seed Exchange and Change make its record anew, and any other page leaves
+-- it alone
+unfoldable pub newKeys : ℕ → List ℕ → List ℕ → List ℕ
+newKeys page d keys =
+    pick (eqb page setKey) (workingKeySet (newVersion d) (seed d) keys)
+    (pick (eqb page seedExchange) (exchanged (agreed d) keys)
+    (pick (eqb page changeMaster) (changed keys)
+    keys))

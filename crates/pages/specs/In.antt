@@ -1,10 +1,11 @@
--- The In pages (document 01, "Pages"): each to the byte, and how a reply is cut.
+-- The In pages (document 01, "Pages"): each to the byte, and the reply that is cut from one.
 use mathlib.Core.List.{List, [], _∷_, _++_}
-use Prim.Native.Nat.{ℕ, min}
+use Prim.Native.Nat.{ℕ}
 use lib.Dec.{eqb}
-use lib.ListN.{length}
+use lib.ListN.{length, take}
 use Rattle.choice.specs.Choice.{pick}
 use Rattle.wire.specs.Bytes.{bytesOf}
+use Rattle.model.specs.Protocol.{pagesOfIn, pagesOfOut, capabilitiesIn, attributesIn, seedIn, controlledIn, setAttributes, seedExchange, setKey, changeMaster}
 use Rattle.model.specs.Controlled.{controlled}
 use Rattle.units.specs.Unit.{method, policyTag, mask}
 
@@ -25,39 +26,30 @@ capabilities =
 
 -- 0000h lists the pages that IN has, 0001h those that OUT has
 unfoldable pub supportedIn : List ℕ
-supportedIn = framed 0x0000 (codes (0x0000 ∷ 0x0001 ∷ 0x0010 ∷ 0x0011 ∷ 0x0012 ∷ 0x0013 ∷ []))
+supportedIn = framed pagesOfIn (codes (pagesOfIn ∷ pagesOfOut ∷ capabilitiesIn ∷ attributesIn ∷ seedIn ∷ controlledIn ∷ []))
 
 unfoldable pub supportedOut : List ℕ
-supportedOut = framed 0x0001 (codes (0x0011 ∷ 0x0012 ∷ 0x0014 ∷ 0x0015 ∷ []))
+supportedOut = framed pagesOfOut (codes (setAttributes ∷ seedExchange ∷ setKey ∷ changeMaster ∷ []))
 
 -- method, tag, mask; the mask is that of the unit's key set
 unfoldable pub attributesPage : List ℕ → List ℕ → List ℕ
-attributesPage rec keys = framed 0x0011 (bytesOf 2 (method rec) ++ (bytesOf 4 (policyTag rec) ++ bytesOf 2 (mask keys)))
+attributesPage rec keys = framed attributesIn (bytesOf 2 (method rec) ++ (bytesOf 4 (policyTag rec) ++ bytesOf 2 (mask keys)))
 
 -- the rows of controlled commands
 unfoldable pub controlledPage : List ℕ
-controlledPage = framed 0x0013 controlled
+controlledPage = framed controlledIn controlled
 
 -- the page that a unit with that record and key set replies, empty where there is none
 unfoldable pub inPage : ℕ → List ℕ → List ℕ → List ℕ
 inPage page rec keys =
-    pick (eqb page 0x0000) supportedIn
-    (pick (eqb page 0x0001) supportedOut
-    (pick (eqb page 0x0010) capabilities
-    (pick (eqb page 0x0011) (attributesPage rec keys)
-    (pick (eqb page 0x0013) controlledPage
+    pick (eqb page pagesOfIn) supportedIn
+    (pick (eqb page pagesOfOut) supportedOut
+    (pick (eqb page capabilitiesIn) capabilities
+    (pick (eqb page attributesIn) (attributesPage rec keys)
+    (pick (eqb page controlledIn) controlledPage
     []))))
 
--- how many bytes it has (InLaws: `page-size`)
-unfoldable pub sizeOf : ℕ → ℕ
-sizeOf page =
-    pick (eqb page 0x0000) 16
-    (pick (eqb page 0x0001) 12
-    (pick (eqb page 0x0010) 20
-    (pick (eqb page 0x0011) 12
-    (pick (eqb page 0x0013) 190
-    0))))
-
--- the count is the smaller of page size and allocation length; that many bytes of the page are written
-unfoldable pub countOf : ℕ → ℕ → ℕ
-countOf size allocation = min size allocation
+-- the reply to an allocation length: as many of the page's bytes as it asks for. The count is its length, the smaller of the two (InLaws:
+-- `reply-length`)
+unfoldable pub replyOf : ℕ → ℕ → List ℕ → List ℕ → List ℕ
+replyOf page allocation rec keys = take allocation (inPage page rec keys)

@@ -5,6 +5,7 @@ use Prim.Native.Nat.{ℕ, _-_}
 use lib.Dec.{eqb, ltb}
 use Rattle.choice.specs.Choice.{pick, either}
 use Rattle.wire.specs.Bytes.{part, number}
+use Rattle.model.specs.Protocol.{setAttributes, seedExchange, setKey}
 use Rattle.model.specs.Totals.{totalOf}
 
 -- every list: page code, page length
@@ -48,9 +49,9 @@ wrongExchange d = either (not (eqb (group d) 0x000E)) (not (eqb (number 2 6 d) 0
 -- Change 4: 0015h, 0000h
 unfoldable pub wrongFields : ℕ → List ℕ → Bool
 wrongFields page d =
-    pick (eqb page 0x0011) (wrongAttributes d)
-    (pick (eqb page 0x0014) (wrongKey d)
-    (pick (eqb page 0x0012) (wrongExchange d)
+    pick (eqb page setAttributes) (wrongAttributes d)
+    (pick (eqb page setKey) (wrongKey d)
+    (pick (eqb page seedExchange) (wrongExchange d)
     false))
 
 -- 19: page code, page length, a field or a named zero wrong; the page length counts what follows it

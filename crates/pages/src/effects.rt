@@ -1,6 +1,8 @@
-// What a GOOD Out page makes of a unit's record.
-use super::lists::copy;
-use super::reader::field;
+// What a GOOD Out page makes of a unit's attributes and of a key set (document 01, "Pages", Effects). A record is written by units'
+// setters, and its check is made last.
+use super::lists::front_of;
+use super::reader::run_of;
+use model::KeyVersion;
 ghost use mathlib.Core.Path.{_≡_};
 ghost use mathlib.Core.List.{_++_};
 ghost use mathlib.Core.Bool.{false};
@@ -9,57 +11,54 @@ ghost use lib.ListN.{length};
 ghost use Rattle.hmac.specs.Hmac.{hmac, bySha1};
 ghost use Rattle.model.specs.Totals.{totalOf};
 ghost use Rattle.units.specs.Unit.{identifier, genKey};
-ghost use Rattle.pages.specs.Out.{newMethod, newTag, newVersion, seed, agreed, wrongList};
-ghost use Rattle.pages.specs.Effects.{attributesSet, withBit, workingKeySet, flipped, lastFlipped, nextGen, nextAuth, exchanged, changed, newRecord};
+ghost use Rattle.pages.specs.Out.{newMethod, newTag, wrongList};
+ghost use Rattle.pages.specs.Effects.{attributesSet, withBit, workingKeySet, flipped, lastFlipped};
+ghost use Rattle.pages.specs.Effects.{nextGen, nextAuth, exchanged, changed, newKeys};
 
-// Set Attributes: method and tag.
-fn set_attributes(rec: &mut [u8], list: &[u8])
-    requires { ⌜ length (now rec) ≡ 512 ⌝ }
-    ensures { λ _. ⌜ now (rec .exit) ≡ attributesSet (newMethod (now (list .entry))) (newTag (now (list .entry))) (now (rec .entry)) ⌝ }
+// Set Attributes: the unit's method and tag.
+pub fn set_attributes(own: &mut [u8], list: &[u8])
+    requires { ⌜ length (now own) ≡ 512 ⌝ }
+    ensures { λ _. ⌜ now (own .exit) ≡ attributesSet (newMethod (now (list .entry))) (newTag (now (list .entry))) (now (own .entry)) ⌝ }
 {
-    let method = wire::bytes2(field(list, 4, 2));
-    let tag = wire::bytes4(field(list, 6, 4));
-    wire::put(rec, 4, &method);
-    wire::put(rec, 8, &tag);
-    seal::seal_record(rec);
+    let f = front_of(model::SET_ATTRIBUTES, list);
+    units::set_method(own, f.first);
+    units::set_tag(own, f.second);
+    seal::seal_record(own);
 }
 
-// The mask with version v's bit set.
-fn with_bit(mask: u16, v: u32) -> u32
-    requires { ⌜ v < 16 ⌝ }
-    ensures { λ r. ⌜ r ≡ withBit v mask ⌝ }
+// The mask with the version's bit set.
+fn with_bit(mask: u32, version: KeyVersion) -> u32
+    requires { ⌜ version .0 < 16 ⌝ }
+    ensures { λ r. ⌜ r ≡ withBit (version .0) mask ⌝ }
 {
-    let wide = mask as u32;
+    let v = version.0;
     let bit = 1u32 << v;
-    if (wide >> v) % 2 == 1 {
-        wide
+    if (mask >> v) % 2 == 1 {
+        mask
     } else {
-        wide + bit
+        mask + bit
     }
 }
 
 // The working key: HMAC under the generation master key over the seed.
-fn made_key(rec: &[u8], list: &[u8]) -> [u8; 20]
-    requires { ⌜ (length (now rec) ≡ 512) × (length (now list) ≡ 28) ⌝ }
-    ensures { λ r. ⌜ r ≡ hmac bySha1 (genKey (now (rec .entry))) (seed (now (list .entry))) ⌝ }
+fn made_key(keys: &[u8], seed: &[u8]) -> [u8; 20]
+    requires { ⌜ length (now keys) ≡ 512 ⌝ }
+    ensures { λ r. ⌜ r ≡ hmac bySha1 (genKey (now (keys .entry))) (now (seed .entry)) ⌝ }
 {
-    let mut seed = [0u8; 20];
-    copy(&mut seed, list, 8);
-    let generation = wire::bytes20(rec, 52);
-    hmac::hmac_of(&generation, &seed)
+    let generation = units::gen_key_of(keys);
+    hmac::hmac_of(&generation, seed)
 }
 
 // Set Key: the key of the version, and its mask bit.
-fn set_key(rec: &mut [u8], list: &[u8])
-    requires { ⌜ (length (now rec) ≡ 512) × (length (now list) ≡ 28) × (newVersion (now list) < 16) ⌝ }
-    ensures { λ _. ⌜ now (rec .exit) ≡ workingKeySet (newVersion (now (list .entry))) (seed (now (list .entry))) (now (rec .entry)) ⌝ }
+fn set_key(keys: &mut [u8], version: KeyVersion, seed: &[u8])
+    requires { ⌜ (length (now keys) ≡ 512) × (version .0 < 16) ⌝ }
+    ensures { λ _. ⌜ now (keys .exit) ≡ workingKeySet (version .0) (now (seed .entry)) (now (keys .entry)) ⌝ }
 {
-    let v = field(list, 4, 1);
-    let key = made_key(&rec[..], list);
-    let mask = wire::bytes2(with_bit(wire::be16(&rec[..], 6), v));
-    wire::put(rec, 6, &mask);
-    wire::put(rec, 112 + 20 * (v as usize), &key);
-    seal::seal_record(rec);
+    let key = made_key(&keys[..], seed);
+    let mask = with_bit(units::mask_of(&keys[..]), version);
+    units::set_mask(keys, mask);
+    units::set_working_key(keys, version, key);
+    seal::seal_record(keys);
 }
 
 // HMAC over two parts, taken in one after another.
@@ -77,12 +76,13 @@ fn flip(x: u8) -> u8
 }
 
 // The unit identifier with the lowest bit of its last byte inverted.
-fn flipped_identifier(rec: &[u8]) -> [u8; 16]
-    requires { ⌜ length (now rec) ≡ 512 ⌝ }
-    ensures { λ r. ⌜ r ≡ lastFlipped (identifier (now (rec .entry))) ⌝ }
+fn flipped_identifier(keys: &[u8]) -> [u8; 16]
+    requires { ⌜ length (now keys) ≡ 512 ⌝ }
+    ensures { λ r. ⌜ r ≡ lastFlipped (identifier (now (keys .entry))) ⌝ }
 {
+    let identifier = units::identifier_of(keys);
     let mut id = [0u8; 16];
-    wire::put(&mut id, 0, &rec[16..32]);
+    wire::put(&mut id, 0, identifier);
     id[15] = flip(id[15]);
     id
 }
@@ -94,58 +94,60 @@ struct Pair {
 }
 
 // The next pair: HMACs under the generation master key over S, and over S with the lowest bit of its last byte inverted.
-fn next_pair(rec: &[u8], list: &[u8]) -> Pair
-    requires { ⌜ (length (now rec) ≡ 512) × (length (now list) ≡ 264) ⌝ }
-    ensures { λ r. ⌜ (r .auth ≡ nextAuth (agreed (now (list .entry))) (now (rec .entry))) × (r .generation ≡ nextGen (agreed (now (list .entry))) (now (rec .entry))) ⌝ }
+fn next_pair(keys: &[u8], value: &[u8]) -> Pair
+    requires { ⌜ length (now keys) ≡ 512 ⌝ }
+    ensures { λ r. ⌜ (r .auth ≡ nextAuth (now (value .entry)) (now (keys .entry))) × (r .generation ≡ nextGen (now (value .entry)) (now (keys .entry))) ⌝ }
 {
-    let mut value = [0u8; 256];
-    copy(&mut value, list, 8);
-    let key = wire::bytes20(rec, 52);
-    let flipped = flipped_identifier(rec);
-    let generation = hmac_of_two(&key, &value, &rec[16..32]);
-    let auth = hmac_of_two(&key, &value, &flipped);
+    let key = units::gen_key_of(keys);
+    let flipped = flipped_identifier(keys);
+    let generation = hmac_of_two(&key, value, units::identifier_of(keys));
+    let auth = hmac_of_two(&key, value, &flipped);
     Pair { auth, generation }
 }
 
 // Seed Exchange: the next pair, and step 1.
-fn exchange(rec: &mut [u8], list: &[u8])
-    requires { ⌜ (length (now rec) ≡ 512) × (length (now list) ≡ 264) ⌝ }
-    ensures { λ _. ⌜ now (rec .exit) ≡ exchanged (agreed (now (list .entry))) (now (rec .entry)) ⌝ }
+fn exchange(keys: &mut [u8], value: &[u8])
+    requires { ⌜ length (now keys) ≡ 512 ⌝ }
+    ensures { λ _. ⌜ now (keys .exit) ≡ exchanged (now (value .entry)) (now (keys .entry)) ⌝ }
 {
-    let pair = next_pair(&rec[..], list);
-    let step = wire::bytes4(1);
-    wire::put(rec, 12, &step);
-    wire::put(rec, 72, &pair.auth);
-    wire::put(rec, 92, &pair.generation);
-    seal::seal_record(rec);
+    let pair = next_pair(&keys[..], value);
+    let auth = pair.auth;
+    let generation = pair.generation;
+    units::set_step(keys, 1);
+    units::set_next_pair(keys, auth, generation);
+    seal::seal_record(keys);
 }
 
 // Change: the next pair becomes the pair; next and working keys, mask and step are zero.
-fn change(rec: &mut [u8])
-    requires { ⌜ length (now rec) ≡ 512 ⌝ }
-    ensures { λ _. ⌜ now (rec .exit) ≡ changed (now (rec .entry)) ⌝ }
+fn change(keys: &mut [u8])
+    requires { ⌜ length (now keys) ≡ 512 ⌝ }
+    ensures { λ _. ⌜ now (keys .exit) ≡ changed (now (keys .entry)) ⌝ }
 {
-    let auth = wire::bytes20(&rec[..], 72);
-    let generation = wire::bytes20(&rec[..], 92);
-    let mask = wire::bytes2(0);
-    let step = wire::bytes4(0);
-    wire::put(rec, 6, &mask);
-    wire::put(rec, 12, &step);
-    wire::put(rec, 32, &auth);
-    wire::put(rec, 52, &generation);
-    wire::put(rec, 72, &[0u8; 360]);
-    seal::seal_record(rec);
+    let auth = units::next_auth_key_of(&keys[..]);
+    let generation = units::next_gen_key_of(&keys[..]);
+    units::set_mask(keys, 0);
+    units::set_step(keys, 0);
+    units::set_pair(keys, auth, generation);
+    units::clear_next_and_working(keys);
+    seal::seal_record(keys);
 }
 
-// Does what the page says, with a list that nothing is wrong with.
-pub fn obey(rec: &mut [u8], page: u32, list: &[u8])
-    requires { ⌜ (length (now rec) ≡ 512) × (length (now list) ≡ totalOf page) × (wrongList page (now list) ≡ false) ⌝ }
-    ensures { λ _. ⌜ now (rec .exit) ≡ newRecord page (now (list .entry)) (now (rec .entry)) ⌝ }
+// What the page makes of a key set, with a list that nothing is wrong with. A page that is none of the three leaves it alone.
+pub fn set_keys(keys: &mut [u8], page: u32, list: &[u8])
+    requires { ⌜ (length (now keys) ≡ 512) × (length (now list) ≡ totalOf page) × (wrongList page (now list) ≡ false) ⌝ }
+    ensures { λ _. ⌜ now (keys .exit) ≡ newKeys page (now (list .entry)) (now (keys .entry)) ⌝ }
 {
+    let f = front_of(page, list);
     match page {
-        0x0011 => set_attributes(rec, list),
-        0x0014 => set_key(rec, list),
-        0x0012 => exchange(rec, list),
-        _ => change(rec),
+        model::SET_KEY => {
+            let seed = run_of(list, f.run, 20);
+            set_key(keys, KeyVersion(f.first), seed)
+        }
+        model::SEED_EXCHANGE => {
+            let value = run_of(list, f.run, 256);
+            exchange(keys, value)
+        }
+        model::CHANGE_MASTER => change(keys),
+        _ => {}
     }
 }

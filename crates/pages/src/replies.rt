@@ -1,9 +1,10 @@
 // The In pages, byte by byte, and the one cut of a reply.
 ghost use mathlib.Core.Path.{_≡_};
-ghost use Prim.Native.Nat.{_≤_, _<_};
+ghost use Prim.Native.Nat.{_≤_, _<_, min};
 ghost use lib.ListN.{length, getD, take};
 ghost use Rattle.wire.specs.Bytes.{patch};
-ghost use Rattle.pages.specs.In.{supportedIn, supportedOut, capabilities, attributesPage, controlledPage, inPage, sizeOf, countOf};
+ghost use Rattle.pages.specs.In.{supportedIn, supportedOut, capabilities, attributesPage, controlledPage, inPage, replyOf};
+ghost use Rattle.pages.specs.InLaws.{sizeOf};
 
 // The pages that IN has, under 0000h.
 const SUPPORTED_IN: [u8; 16] = [
@@ -97,12 +98,12 @@ fn controlled_page_at(i: usize) -> u8
 }
 
 // 0011h, of the unit's record and that of its key set.
-fn attributes_at(rec: &[u8], keys: &[u8], i: usize) -> u8
-    ensures { λ r. ⌜ r ≡ getD (attributesPage (now (rec .entry)) (now (keys .entry))) i 0 ⌝ }
+fn attributes_at(own: &[u8], keys: &[u8], i: usize) -> u8
+    ensures { λ r. ⌜ r ≡ getD (attributesPage (now (own .entry)) (now (keys .entry))) i 0 ⌝ }
 {
-    let method = wire::be16(rec, 4) as u32;
-    let tag = wire::be32(rec, 8);
-    let mask = wire::be16(keys, 6) as u32;
+    let method = units::method_of(own);
+    let tag = units::tag_of(own);
+    let mask = units::mask_of(keys);
     let page = [
         0x00,
         0x11,
@@ -121,15 +122,15 @@ fn attributes_at(rec: &[u8], keys: &[u8], i: usize) -> u8
 }
 
 // The byte at i of a page, 0 past its end.
-fn page_at(page: u32, rec: &[u8], keys: &[u8], i: usize) -> u8
-    ensures { λ r. ⌜ r ≡ getD (inPage page (now (rec .entry)) (now (keys .entry))) i 0 ⌝ }
+fn page_at(page: u32, own: &[u8], keys: &[u8], i: usize) -> u8
+    ensures { λ r. ⌜ r ≡ getD (inPage page (now (own .entry)) (now (keys .entry))) i 0 ⌝ }
 {
     match page {
-        0x0000 => supported_in_at(i),
-        0x0001 => supported_out_at(i),
-        0x0010 => capabilities_at(i),
-        0x0011 => attributes_at(rec, keys, i),
-        0x0013 => controlled_page_at(i),
+        model::PAGES_OF_IN => supported_in_at(i),
+        model::PAGES_OF_OUT => supported_out_at(i),
+        model::CAPABILITIES_IN => capabilities_at(i),
+        model::ATTRIBUTES_IN => attributes_at(own, keys, i),
+        model::CONTROLLED_IN => controlled_page_at(i),
         _ => 0,
     }
 }
@@ -139,32 +140,42 @@ fn page_size(page: u32) -> u32
     ensures { λ r. ⌜ r ≡ sizeOf page ⌝ }
 {
     match page {
-        0x0000 => 16,
-        0x0001 => 12,
-        0x0010 => 20,
-        0x0011 => 12,
-        0x0013 => 190,
+        model::PAGES_OF_IN => 16,
+        model::PAGES_OF_OUT => 12,
+        model::CAPABILITIES_IN => 20,
+        model::ATTRIBUTES_IN => 12,
+        model::CONTROLLED_IN => 190,
         _ => 0,
     }
 }
 
 // How many of them are replied: the smaller of page size and allocation length.
-pub fn page_count(page: u32, allocation: u32) -> u32
-    ensures { λ r. ⌜ r ≡ countOf (sizeOf page) allocation ⌝ }
+fn page_count(page: u32, allocation: u32) -> u32
+    ensures { λ r. ⌜ r ≡ min allocation (sizeOf page) ⌝ }
 {
     let size = page_size(page);
     if size <= allocation { size } else { allocation }
 }
 
 // Writes the first count bytes of a page into the reply.
-pub fn write_page(reply: &mut [u8], page: u32, rec: &[u8], keys: &[u8], count: u32)
+fn write_page(reply: &mut [u8], page: u32, own: &[u8], keys: &[u8], count: u32)
     requires { ⌜ (length (now reply) ≡ 512) × (count ≤ sizeOf page) ⌝ }
-    ensures { λ _. ⌜ now (reply .exit) ≡ patch (now (reply .entry)) 0 (take count (inPage page (now (rec .entry)) (now (keys .entry)))) ⌝ }
+    ensures { λ _. ⌜ now (reply .exit) ≡ patch (now (reply .entry)) 0 (take count (inPage page (now (own .entry)) (now (keys .entry)))) ⌝ }
 {
     let n = count as usize;
     let mut i = 0;
     while i < n {
-        reply[i] = page_at(page, rec, keys, i);
+        reply[i] = page_at(page, own, keys, i);
         i += 1;
     }
+}
+
+// Writes what a unit with that record and key set replies, cut once, and says how many bytes that is.
+pub fn reply(reply: &mut [u8], page: u32, allocation: u32, own: &[u8], keys: &[u8]) -> u32
+    requires { ⌜ length (now reply) ≡ 512 ⌝ }
+    ensures { λ r. ⌜ (r ≡ length (replyOf page allocation (now (own .entry)) (now (keys .entry)))) × (now (reply .exit) ≡ patch (now (reply .entry)) 0 (replyOf page allocation (now (own .entry)) (now (keys .entry)))) ⌝ }
+{
+    let count = page_count(page, allocation);
+    write_page(reply, page, own, keys, count);
+    count
 }

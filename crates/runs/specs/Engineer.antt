@@ -1,124 +1,92 @@
--- The line engineer's case, by name: what holds at any step of any run from sound tables.
-use mathlib.Core.Path.{_≡_, refl, sym, ap, _∙_}
+-- The line engineer's case, by name: what holds at any step of any run from sound tables. A step is an open, or the close of a parked command,
+-- whatever held when that was opened; x is the command that it is about.
+use mathlib.Core.Path.{_≡_, sym, ap, _∙_, subst}
 use mathlib.Core.Logic.{⊎-elim}
-use mathlib.Core.Bool.{Bool, true, false}
+use mathlib.Core.Bool.{true, false}
 use mathlib.Core.Option.{Option, none, some}
-use mathlib.Core.List.{List, [], _∷_}
-use Prim.Native.Nat.{ℕ, _+_, _≤_, _<_}
+use mathlib.Core.List.{List}
+use Prim.Native.Nat.{ℕ, _≤_, _<_}
 use native.Mathlib.Omega.{arith}
-use Rattle.wire.specs.Bytes.{part}
-use Rattle.hmac.specs.Hmac.{hmac, bySha1}
-use Rattle.model.specs.Rows.{listed}
+use Rattle.model.specs.Rows.{isOpenRow}
+use Rattle.model.specs.Answers.{isGood, isFinal, isRefused}
+use Rattle.model.specs.AnswerLaws.{final-refused}
 use Rattle.model.specs.declared.Answer.{Answer}
-use Rattle.model.specs.declared.Answer.the-variants.{Good, Parked, Run, Check, Full, H1, H2, H3, H4, H5}
-use Rattle.units.specs.Unit.{unitAt, method, policyTag}
-use Rattle.judge.specs.Command.{codeOf, needFor, isMaster, isChange, isOpenRow}
-use Rattle.judge.specs.Descriptor.{keyVersion, expiration, capTag}
-use Rattle.judge.specs.OrderLaws.{open-passed}
-use Rattle.judge.specs.Checked.{behindCdb}
-use Rattle.calls.specs.CloseLaws.{close-none}
-use Rattle.runs.specs.Answers.{isGood, isFinal}
-use Rattle.runs.specs.WholeCases.{whole-final}
-use Rattle.runs.specs.Run.{Tables, Call, Event, Meets, Ran, ledgerOf, starts, Done, doneIn}
-use Rattle.runs.specs.Sequence.{SoundTables}
-use Rattle.runs.specs.History.{keySaid}
-use Rattle.runs.specs.GoodChecked.{CheckedBy, keysBefore, good-none, answer-is, good-checked}
-
--- refused: CHECK CONDITION, so that neither the medium nor the crypto block gets it, and no record changes
-abbrev pub isRefused : Answer → Bool
-isRefused (Good n) = false
-isRefused (Parked s) = false
-isRefused Run = false
-isRefused (Check s) = true
-isRefused Full = false
-isRefused H1 = false
-isRefused H2 = false
-isRefused H3 = false
-isRefused H4 = false
-isRefused H5 = false
-
--- a final answer that is not GOOD
-final-refused : (a : Answer) → isFinal a ≡ true → (isGood a ≡ true → ⊥) → isRefused a ≡ true
-final-refused (Good n) f g = absurd (g refl)
-final-refused (Parked s) f g = f
-final-refused Run f g = absurd (g refl)
-final-refused (Check s) f g = refl
-final-refused Full f g = f
-final-refused H1 f g = f
-final-refused H2 f g = f
-final-refused H3 f g = f
-final-refused H4 f g = f
-final-refused H5 f g = f
+use Rattle.units.specs.Unit.{unitAt, policyTag}
+use Rattle.judge.specs.Command.{needFor, isUnlisted, descriptorOf, checkValueOf}
+use Rattle.judge.specs.Descriptor.{expiration, capTag}
+use Rattle.judge.specs.Keys.{tagFor}
+use Rattle.judge.specs.Seen.{seen}
+use Rattle.judge.specs.Judgement.{rulesFor, skipsGuard, openReason}
+use Rattle.judge.specs.JudgementLaws.{open-passed}
+use Rattle.judge.specs.Checked.{FactsHold}
+use Rattle.judge.specs.CheckedLaws.{guarded-facts}
+use Rattle.calls.specs.Outcome.{Tables}
+use Rattle.calls.specs.Whole.{Asked, whole}
+use Rattle.runs.specs.Run.{Call, Event, Meets, Ran, SoundTables}
+use Rattle.runs.specs.Ledger.{ledgerOf, starts, commandOf, sentBy, clockOf}
+use Rattle.runs.specs.History.{keysBefore, keyFor, CheckedBy}
+use Rattle.runs.specs.GoodChecked.{isCommand, final-answers, good-open, ruled-checked}
 
 none-some : (key : List ℕ) → _≡_ {A = Option (List ℕ)} none (some key) → ⊥
 none-some key e = let z : _≡_ {A = ℕ} 0 1 = cc in omega arith
 
--- ---- at a step of a run: the call k met its promise on the tables m that a run from sound tables left, and answered the command x. The
--- step is an open, or the close of a parked command, whatever held when that was opened
+some-same : {A : Type 0} (p q : A) → some p ≡ some q → p ≡ q
+some-same p q e = cc
 
+-- the step is an open or a close that was answered finally, and x its command
 module _ (t : Tables) (es : List Event) (m : Tables) (sound : SoundTables t) (ran : Ran t es m) (k : Call) (a : Answer) (r : List ℕ) (n : Tables)
-    (meets : Meets m k a r n) (x : Done) (answered : doneIn (ledgerOf (starts (t .slots)) es) k a r ≡ x ∷ []) where
-  abbrev rec : List ℕ
-  rec = unitAt (x .what .unit) (m .units)
+    (meets : Meets m k a r n) (command : isCommand k ≡ true) (final : isFinal a ≡ true) (x : Asked)
+    (about : commandOf (ledgerOf (starts (t .slots)) es) k ≡ some x) where
+  -- refused, unless GOOD: and where it was GOOD, nothing refused it
+  refused-unless : (openReason (seen (m .units) (x .unit)) (x .command) (x .token) (clockOf k) ≡ 0 → ⊥) → isRefused a ≡ true
+  refused-unless f =
+      final-refused a final
+      (λ g. let w = final-answers t es m sound ran k a r n meets command final in
+      let same = some-same (w .what) x (sym (w .about) ∙ about) in
+      let whole-is = subst (λ (y : Asked). whole (m .units) y (sentBy k) (clockOf k) .answer ≡ a) same (w .as-whole) in
+      f (good-open (m .units) x (sentBy k) (clockOf k) (ap isGood whole-is ∙ g)))
 
-  abbrev c : List ℕ
-  c = x .what .command
-
-  -- the key that the history says is valid for the command just before the step
-  abbrev pub keyNow : Option (List ℕ)
-  keyNow =
-      keySaid (keysBefore t es m sound ran k a r n meets x answered (x .what .unit)) (isMaster (needFor (x .what .command))) (isChange (x .what .command))
-      (keyVersion (behindCdb (x .what .command)) (x .what .command))
-
-  is-final : isFinal (x .answer) ≡ true
-  is-final =
-      sym (ap isFinal (answer-is t es m sound ran k a r n meets x answered)) ∙ whole-final (m .units) (x .what) (x .sent) (x .clock)
-
-  refused-unless : (isGood (x .answer) ≡ true → ⊥) → isRefused (x .answer) ≡ true
-  refused-unless f = final-refused (x .answer) is-final f
-
-  -- a code with no entry never runs
-  pub unknown-never : listed (codeOf (x .what .command)) ≡ false → isRefused (x .answer) ≡ true
+  -- a command that no row has, by its code or its page, and an empty one never runs
+  pub unknown-never : isUnlisted (x .command) ≡ true → isRefused a ≡ true
   unknown-never e =
       refused-unless
-      (λ g.
-      let w = ap isGood (answer-is t es m sound ran k a r n meets x answered) ∙ g in
-      let z = close-none (m .units) (x .what .unit) (x .what .command) (x .what .token) (x .sent) (x .clock) (good-none (m .units) (x .what) (x .sent) (x .clock) w) .0 in
-      let p : listed (codeOf (x .what .command)) ≡ true = open-passed (m .units) (x .what .unit) (x .what .command) (x .what .token) (x .clock) z .known in
-      let q : true ≡ false = sym p ∙ e in
+      (λ z. let p = open-passed (seen (m .units) (x .unit)) (x .command) (x .token) (clockOf k) z .known in
+      let q : true ≡ false = sym e ∙ p in
       let o : _≡_ {A = ℕ} 0 1 = cc in
       omega arith)
 
-  -- ---- a guarded command on a unit that is CAPKEY when its data come is judged by what stands then
+  -- ---- a command that does not skip 6 to 15 is judged by what stands when its data come: that is every command but open rows, and bare ones on a
+  -- NOSEC unit that are no master rows
 
-  module _ (capkey : method (unitAt (x .what .unit) (m .units)) ≡ 1) (guarded : isOpenRow (needFor (x .what .command)) ≡ false) where
-    checked : isGood (x .answer) ≡ true → CheckedBy rec (keysBefore t es m sound ran k a r n meets x answered (x .what .unit)) (x .what) (x .clock)
-    checked g = good-checked t es m sound ran k a r n meets x answered g capkey guarded
+  module _ (judged : skipsGuard (unitAt (x .unit) (m .units)) (x .command) ≡ false) where
+    facts : openReason (seen (m .units) (x .unit)) (x .command) (x .token) (clockOf k) ≡ 0
+        → FactsHold (needFor (x .command)) (unitAt (x .unit) (m .units)) (descriptorOf (x .command)) (clockOf k)
+    facts z = guarded-facts (seen (m .units) (x .unit)) (x .command) (x .token) (clockOf k) z judged
 
     -- its capability has expired
-    pub expired-refused : (expiration (behindCdb (x .what .command)) (x .what .command) ≡ 0 → ⊥)
-        → expiration (behindCdb (x .what .command)) (x .what .command) < x .clock → isRefused (x .answer) ≡ true
+    pub expired-refused : (expiration (descriptorOf (x .command)) ≡ 0 → ⊥) → expiration (descriptorOf (x .command)) < clockOf k → isRefused a ≡ true
     expired-refused nz h =
-        refused-unless (λ g. ⊎-elim nz (λ le. let e : x .clock ≤ expiration (behindCdb (x .what .command)) (x .what .command) = le in omega arith) (checked g .checks .unexpired))
+        refused-unless (λ z. ⊎-elim nz (λ le. let e : clockOf k ≤ expiration (descriptorOf (x .command)) = le in omega arith) (facts z .unexpired))
 
-    -- its tag is no longer the unit's
-    pub retagged-refused : (capTag (behindCdb (x .what .command)) (x .what .command) ≡ 0 → ⊥)
-        → (capTag (behindCdb (x .what .command)) (x .what .command) ≡ policyTag (unitAt (x .what .unit) (m .units)) → ⊥) → isRefused (x .answer) ≡ true
-    retagged-refused nz ne = refused-unless (λ g. ⊎-elim nz ne (checked g .checks .tagged))
+    -- its tag is not the unit's, or no longer
+    pub retagged-refused : (capTag (descriptorOf (x .command)) ≡ 0 → ⊥) → (capTag (descriptorOf (x .command)) ≡ policyTag (unitAt (x .unit) (m .units)) → ⊥)
+        → isRefused a ≡ true
+    retagged-refused nz ne = refused-unless (λ z. ⊎-elim nz ne (facts z .tagged))
 
-    -- its version has no valid key
-    pub keyless-refused : keyNow ≡ none → isRefused (x .answer) ≡ true
-    keyless-refused e = refused-unless (λ g. none-some (checked g .key) (sym e ∙ checked g .valid))
+  -- ---- where CAPKEY rules, for rows that are not open, it also wants a key that is valid then
+
+  module _ (rules : rulesFor (unitAt (x .unit) (m .units)) (x .command) ≡ true) (guarded : isOpenRow (needFor (x .command)) ≡ false) where
+    checked : isGood a ≡ true → CheckedBy (unitAt (x .unit) (m .units)) (keysBefore t es (x .unit)) x (clockOf k)
+    checked g = ruled-checked t es m sound ran k a r n meets x about command g rules guarded
+
+    -- the history has no valid key for it
+    pub keyless-refused : keyFor (keysBefore t es (x .unit)) (x .command) ≡ none → isRefused a ≡ true
+    keyless-refused e = final-refused a final (λ g. none-some (checked g .key) (sym e ∙ checked g .valid))
 
     -- its check value does not verify under the key valid then
-    pub unverified-refused : (key : List ℕ) → keyNow ≡ some key
-        → (part (behindCdb (x .what .command) + 58) 20 (x .what .command)
-        ≡ hmac bySha1 (hmac bySha1 key (part (behindCdb (x .what .command)) 58 (x .what .command))) (x .what .token) → ⊥)
-        → isRefused (x .answer) ≡ true
+    pub unverified-refused : (key : List ℕ) → keyFor (keysBefore t es (x .unit)) (x .command) ≡ some key
+        → (checkValueOf (x .command) ≡ tagFor key (descriptorOf (x .command)) (x .token) → ⊥) → isRefused a ≡ true
     unverified-refused key e ne =
-        refused-unless
-        (λ g. let same : checked g .key ≡ key = some-same (checked g .key) key (sym (checked g .valid) ∙ e) in
-        ne (checked g .checks .verifies ∙ ap (λ (y : List ℕ). hmac bySha1 (hmac bySha1 y (part (behindCdb (x .what .command)) 58 (x .what .command))) (x .what .token)) same))
-      where
-        some-same : (p q : List ℕ) → some p ≡ some q → p ≡ q
-        some-same p q e = cc
+        final-refused a final
+        (λ g. let same = some-same (checked g .key) key (sym (checked g .valid) ∙ e) in
+        ne (subst (λ (y : List ℕ). checkValueOf (x .command) ≡ tagFor y (descriptorOf (x .command)) (x .token)) same (checked g .checks .verifies)))

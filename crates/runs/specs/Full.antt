@@ -1,156 +1,99 @@
--- Demand 3: "task set full" exactly when a data-out command passes and no free slot is left, by the ledger.
+-- Demand 3: "task set full" exactly when a data-out command passes and no free slot is left, by the ledger; and no call but an open gives it.
 use mathlib.Core.Path.{_≡_, refl, sym, ap, _∙_}
 use mathlib.Core.Bool.{Bool, true, false}
 use mathlib.Core.Option.{Option, none, some}
 use mathlib.Core.List.{List, []}
-use Prim.Native.Nat.{ℕ, _<_}
+use Prim.Native.Nat.{ℕ, zero, suc, _+_, _≤_, _<_}
 use native.Mathlib.Omega.{arith}
+use native.Mathlib.Nat.{eq-or-lt-of-le}
+use mathlib.Core.Logic.{⊎-elim}
+use lib.Dec.{eqb}
 use lib.ListN.{length}
-use borrow.Author.Tests.{eq-eqb}
+use borrow.Author.Tests.{eqb-true, eq-eqb}
+use Rattle.choice.specs.Choice.{pick}
+use Rattle.choice.specs.ChoiceLaws.{pick-cases, both-true}
 use Rattle.model.specs.Codes.{dataOut}
+use Rattle.model.specs.Answers.{isA}
+use Rattle.model.specs.AnswerLaws.{final-not-full}
+use Rattle.model.specs.declared.SlotNo.{SlotNo}
 use Rattle.model.specs.declared.Answer.{Answer}
-use Rattle.model.specs.declared.Answer.the-variants.{Good, Parked, Run, Check, Full, H1, H2, H3, H4, H5}
-use Rattle.slots.specs.Slot.{slotAt, slotStateOf, isFree, lowestFree, isOpen, freed, allFreed}
-use Rattle.slots.specs.SearchLaws.{lowest, none-free}
+use Rattle.model.specs.declared.Answer.the-variants.{Full}
+use Rattle.slots.specs.Slot.{rightToken}
 use Rattle.slots.specs.declared.Found.{Found}
 use Rattle.slots.specs.declared.Found.the-variants.{At, Nothing}
-use Rattle.slots.specs.declared.SlotState.{SlotState}
-use Rattle.slots.specs.declared.SlotState.the-variants.{Free, Open, Unsound}
 use Rattle.judge.specs.Command.{codeOf}
-use Rattle.judge.specs.Judgement.{openReason}
-use lib.Dec.{eqb, leb}
-use Rattle.choice.specs.Choice.{both, pick}
-use Rattle.calls.specs.Outcome.{out, one-answer}
-use Rattle.calls.specs.Slots.{abortOut, resetOut}
-use Rattle.calls.specs.Lent.{Lent, lent, Outcome, gives, rightLengths, rightlyLent, one-outcome}
-use Rattle.calls.specs.Open.{rightToken, slotPlan, applyOpen, openOut}
-use Rattle.calls.specs.OpenLaws.{lengths-are}
-use Rattle.runs.specs.Cases.{Opens}
-use Rattle.runs.specs.Answers.{isFinal, told-apart}
-use Rattle.runs.specs.Whole.{Asked, whole, heldBy}
-use Rattle.runs.specs.WholeCases.{whole-final}
-use Rattle.runs.specs.Run.{Tables, opens, Event, Meets, Ran, Ledger, ledgerOf, held, viewBy, view, toView, starts, Call, closes, aborts, resets, Fits}
-use Rattle.runs.specs.StepLaws.{open-by, parked-out, close-by}
-use Rattle.runs.specs.Sequence.{SoundTables, sequence}
+use Rattle.calls.specs.Outcome.{Tables}
+use Rattle.calls.specs.Whole.{Asked, whole}
+use Rattle.calls.specs.Open.{reasonAtOpen, parks}
+use Rattle.runs.specs.WholeLaws.{whole-final}
+use Rattle.runs.specs.Run.{Call, opens, closes, aborts, resets, Event, Meets, Ran, SoundTables}
+use Rattle.runs.specs.Ledger.{Ledger, ledgerOf, starts}
+use Rattle.runs.specs.Expected.{Expected, isVacant, vacantFrom, leastVacant, entryAt, parkedAt, closedAs, closeExpected, abortedAs, openExpected, expected, Passes, NoneFree}
+use Rattle.runs.specs.EachStep.{each-step}
 
--- the command passes: a reply of 512 bytes, a token of 16 to 64, no reason of 1 to 17, and it carries data out
-pub record Passes (units : List ℕ) (k : Asked) (clock : ℕ) (reply : List ℕ) : Type 0 where
-  pub reply-length : length reply ≡ 512
-  pub token-length : rightToken (length (k .token)) ≡ true
-  pub none-refuses : openReason units (k .unit) (k .command) (k .token) clock ≡ 0
-  pub data-out : dataOut (codeOf (k .command)) ≡ true
+-- ---- no slot is vacant exactly where the search finds none
 
--- no slot is free, by the ledger
-abbrev pub NoneFree : Ledger → Type 0
-NoneFree ledger = (i : ℕ) → i < 16 → (k : Asked) × (ledger i ≡ some k)
+none-vacant : (n i : ℕ) (ledger : Ledger) → ((j : ℕ) → i ≤ j → j < i + n → (k : Asked) × (ledger j ≡ some k)) → vacantFrom n i ledger ≡ Nothing
+unfolding vacantFrom
+none-vacant zero i ledger h = refl
+none-vacant (suc n) i ledger h =
+    let x = h i (omega arith) (omega arith) in
+    rw (x .1) (none-vacant n (i + 1) ledger (λ j a b. h j (omega arith) (omega arith)))
 
-abbrev isFull : Answer → Bool
-isFull (Good n) = false
-isFull (Parked s) = false
-isFull Run = false
-isFull (Check s) = false
-isFull Full = true
-isFull H1 = false
-isFull H2 = false
-isFull H3 = false
-isFull H4 = false
-isFull H5 = false
+held-entry : (o : Option Asked) → isVacant o ≡ false → (k : Asked) × (o ≡ some k)
+held-entry none e = let z : _≡_ {A = ℕ} 0 1 = cc in absurd (omega arith)
+held-entry (some k) e = (k, refl)
 
--- a final answer is not A4
-final-not-full : (a : Answer) → isFinal a ≡ true → isFull a ≡ false
-final-not-full (Good n) e = refl
-final-not-full (Parked s) e = refl
-final-not-full Run e = refl
-final-not-full (Check s) e = refl
-final-not-full Full e = sym e
-final-not-full H1 e = refl
-final-not-full H2 e = refl
-final-not-full H3 e = refl
-final-not-full H4 e = refl
-final-not-full H5 e = refl
+not-vacant : (b : Bool) (s : SlotNo) (f : Found) → pick b (At s) f ≡ Nothing → (b ≡ false) × (f ≡ Nothing)
+not-vacant true s f e = let z : _≡_ {A = ℕ} 0 1 = cc in absurd (omega arith)
+not-vacant false s f e = (refl, e)
 
--- a slot is free where the ledger has nothing, and only there
-free-vacant : (s : SlotState) (rec : List ℕ) (o : Option Asked) → viewBy s rec ≡ toView o → isFree s ≡ false → (k : Asked) × (o ≡ some k)
-free-vacant Free rec o e f = let z : _≡_ {A = ℕ} 0 1 = cc in absurd (omega arith)
-free-vacant Open rec none e f = let z : _≡_ {A = ℕ} 0 1 = cc in absurd (omega arith)
-free-vacant Open rec (some k) e f = (k, refl)
-free-vacant Unsound rec none e f = let z : _≡_ {A = ℕ} 0 1 = cc in absurd (omega arith)
-free-vacant Unsound rec (some k) e f = (k, refl)
+all-held : (n i : ℕ) (ledger : Ledger) → vacantFrom n i ledger ≡ Nothing → (j : ℕ) → i ≤ j → j < i + n → (k : Asked) × (ledger j ≡ some k)
+unfolding vacantFrom
+all-held zero i ledger e j a b = absurd (omega arith)
+all-held (suc n) i ledger e j a b =
+    let p = not-vacant (isVacant (ledger i)) (record { 0 = i }) (vacantFrom n (i + 1) ledger) e in
+    ⊎-elim (λ q. let x = held-entry (ledger i) (p .0) in (x .0, ap ledger (sym q) ∙ x .1)) (λ g. all-held n (i + 1) ledger (p .1) j (omega arith) (omega arith)) (eq-or-lt-of-le a)
 
-vacant-free : (s : SlotState) (rec : List ℕ) (k : Asked) → viewBy s rec ≡ held k → isFree s ≡ true → ⊥
-vacant-free Free rec k e f = let z : _≡_ {A = ℕ} 0 1 = cc in omega arith
-vacant-free Open rec k e f = let z : _≡_ {A = ℕ} 0 1 = cc in omega arith
-vacant-free Unsound rec k e f = let z : _≡_ {A = ℕ} 0 1 = cc in omega arith
+-- ---- what the answer of an open tells
 
-module _ (t : Tables) (ledger : Ledger) (fit : Fits t ledger) (k : Asked) (clock : ℕ) (reply : List ℕ) (a : Answer) (r : List ℕ) (n : Tables)
-    (meets : Meets t (opens k clock reply) a r n) where
-  all-taken : lowestFree (t .slots) ≡ Nothing → NoneFree ledger
-  unfolding view
-  all-taken e i h = free-vacant (slotStateOf (slotAt i (t .slots))) (slotAt i (t .slots)) (ledger i) (fit .agrees i h) (none-free (t .slots) e i h)
+module _ (units : List ℕ) (ledger : Ledger) (k : Asked) (clock : ℕ) (reply : List ℕ) where
+  full-none : (f : Found) → isA 4 (parkedAt f) ≡ true → f ≡ Nothing
+  full-none (At s) e = let z : _≡_ {A = ℕ} 0 1 = cc in absurd (omega arith)
+  full-none Nothing e = refl
 
-  none-found : NoneFree ledger → (f : Found) → lowestFree (t .slots) ≡ f → f ≡ Nothing
-  unfolding view
-  none-found taken Nothing e = refl
-  none-found taken (At s) e =
-      let w = lowest (t .slots) s e in
-      let x = taken (s .0) (w .0) in
-      absurd (vacant-free (slotStateOf (slotAt (s .0) (t .slots))) (slotAt (s .0) (t .slots)) (x .0) (fit .agrees (s .0) (w .0) ∙ ap toView (x .1)) (w .1))
+  full-only : isA 4 (openExpected units ledger k clock reply .answer) ≡ true → Passes units k clock reply × NoneFree ledger
+  unfolding openExpected leastVacant
+  full-only =
+      let P : Expected → Type 0 = λ x. isA 4 (x .answer) ≡ true → Passes units k clock reply × NoneFree ledger in
+      pick-cases P (eqb (length reply) 512) _ _
+      (λ a. pick-cases P (rightToken (length (k .token))) _ _
+      (λ b. pick-cases P (parks units k clock) _ _
+      (λ p e. let q = both-true (eqb (reasonAtOpen units k clock) 0) (dataOut (codeOf (k .command))) p in
+      (record { reply-length = eqb-true (length reply) 512 a; token-length = b; none-refuses = eqb-true _ 0 (q .0); data-out = q .1 }, λ i h. all-held 16 0 ledger (full-none (vacantFrom 16 0 ledger) e) i (omega arith) (omega arith)))
+      (λ p e. let z : true ≡ false = sym e ∙ final-not-full (whole units k [] clock .answer) (whole-final units k [] clock) in let o : _≡_ {A = ℕ} 0 1 = cc in absurd (omega arith)))
+      (λ b e. let o : _≡_ {A = ℕ} 0 1 = cc in absurd (omega arith)))
+      (λ a e. let o : _≡_ {A = ℕ} 0 1 = cc in absurd (omega arith))
 
-  -- only then
-  pub full-only : a ≡ Full → Passes (t .units) k clock reply × NoneFree ledger
-  full-only e =
-      open-by (lent (t .units) (t .slots) reply) k clock (λ (o : Outcome). gives a (lent (n .units) (n .slots) r) ≡ o → Passes (t .units) k clock reply × NoneFree ledger)
-      (λ h q. absurd (other H1 q refl)) (λ h q. absurd (other H2 q refl))
-      (λ h g p q. absurd (other (whole (t .units) k [] clock .answer) q (final-not-full (whole (t .units) k [] clock .answer) (whole-final (t .units) k [] clock))))
-      (λ o d s f q. absurd (other (Parked s) q refl))
-      (λ o d f q. (record { reply-length = lengths-are _ _ _ (o .lengths) .2; token-length = o .token-length; none-refuses = o .none; data-out = d }, all-taken f)) meets
-    where
-      other : {m : Lent} (b : Answer) → gives a (lent (n .units) (n .slots) r) ≡ gives b m → isFull b ≡ false → ⊥
-      other {m} b q f = told-apart isFull a b (one-outcome a b _ m (gives b m) q refl .0) (ap isFull e) f
-
-  -- and always then
-  pub full-always : Passes (t .units) k clock reply → NoneFree ledger → a ≡ Full
-  unfolding rightLengths
+  full-always : Passes units k clock reply → NoneFree ledger → openExpected units ledger k clock reply .answer ≡ Full
+  unfolding openExpected leastVacant
   full-always p taken =
-      let l = lent (t .units) (t .slots) reply in
-      let lengths : rightlyLent l ≡ true = rw (eq-eqb (length (t .units)) 4096 (fit .units-length), eq-eqb (length (t .slots)) 8192 (fit .slots-length), eq-eqb (length reply) 512 (p .reply-length)) in
-      let o : Opens l (k .unit) (k .command) (k .token) clock = record { lengths = lengths; token-length = p .token-length; none = p .none-refuses } in
-      let full : gives Full l ≡ openOut l (k .unit) (k .command) (k .token) clock =
-      sym (ap (λ (f : Found). applyOpen l (k .unit) (k .command) (k .token) (slotPlan f)) (none-found taken (lowestFree (t .slots)) refl))
-      ∙ parked-out l k clock o (p .data-out) in
-      one-outcome a Full _ l _ meets full .0
+      rw (eq-eqb (length reply) 512 (p .reply-length), p .token-length, eq-eqb (reasonAtOpen units k clock) 0 (p .none-refuses), p .data-out, none-vacant 16 0 ledger (λ j a b. taken j (omega arith)))
 
 -- ---- no other call gives it
 
-close-not-full : (t : Tables) (s : ℕ) (d : List ℕ) (clock : ℕ) (reply : List ℕ) (a : Answer) (r : List ℕ) (n : Tables)
-    → Meets t (closes s d clock reply) a r n → a ≡ Full → ⊥
-close-not-full t s d clock reply a r n meets e =
-    close-by (lent (t .units) (t .slots) reply) s d clock (λ (o : Outcome). gives a (lent (n .units) (n .slots) r) ≡ o → ⊥)
-    (λ h q. other H1 q refl) (λ q. other H3 q refl)
-    (λ o q. let w = whole (t .units) (heldBy (slotAt s (t .slots))) d clock .answer in
-    other w q (final-not-full w (whole-final (t .units) (heldBy (slotAt s (t .slots))) d clock))) meets
+close-not-full : (units : List ℕ) (ledger : Ledger) (s : ℕ) (d : List ℕ) (clock : ℕ) (reply : List ℕ) → isA 4 (closeExpected units ledger s d clock reply .answer) ≡ false
+unfolding closeExpected
+close-not-full units ledger s d clock reply =
+    pick-cases (λ (x : Expected). isA 4 (x .answer) ≡ false) (eqb (length reply) 512) _ _ (λ a. by-entry (entryAt ledger s)) (λ a. refl)
   where
-    other : {m : Lent} (b : Answer) → gives a (lent (n .units) (n .slots) r) ≡ gives b m → isFull b ≡ false → ⊥
-    other {m} b q f = told-apart isFull a b (one-outcome a b _ m (gives b m) q refl .0) (ap isFull e) f
+    by-entry : (o : Option Asked) → isA 4 (closedAs units d clock reply o .answer) ≡ false
+    by-entry none = refl
+    by-entry (some k) = final-not-full (whole units k d clock .answer) (whole-final units k d clock)
 
--- of two outcomes that are no A4, neither is
-pick-not-full : (b : Bool) (a x y : Answer) (s l m : List ℕ) → out a s ≡ pick b (out x l) (out y m) → isFull x ≡ false → isFull y ≡ false → isFull a ≡ false
-pick-not-full true a x y s l m e f g = ap isFull (one-answer a x s l (out x l) e refl .0) ∙ f
-pick-not-full false a x y s l m e f g = ap isFull (one-answer a y s m (out y m) e refl .0) ∙ g
-
-abort-not-full : (slots : List ℕ) (s : ℕ) (a : Answer) (n : List ℕ) → out a n ≡ abortOut slots s → isFull a ≡ false
-unfolding abortOut
-abort-not-full slots s a n e = by-length (eqb (length slots) 8192) e
-  where
-    by-length : (b : Bool)
-        → out a n ≡ pick b (pick (both (leb s 15) (isOpen (slotStateOf (slotAt s slots)))) (out (Good 0) (freed s slots)) (out H3 slots)) (out H1 slots)
-        → isFull a ≡ false
-    by-length true q = pick-not-full (both (leb s 15) (isOpen (slotStateOf (slotAt s slots)))) a (Good 0) H3 n (freed s slots) slots q refl refl
-    by-length false q = ap isFull (one-answer a H1 n slots (out H1 slots) q refl .0)
-
-reset-not-full : (slots : List ℕ) (a : Answer) (n : List ℕ) → out a n ≡ resetOut slots → isFull a ≡ false
-unfolding resetOut
-reset-not-full slots a n e = pick-not-full (eqb (length slots) 8192) a (Good 0) H1 n (allFreed slots) slots e refl refl
+abort-not-full : (o : Option Asked) → isA 4 (abortedAs o) ≡ false
+abort-not-full none = refl
+abort-not-full (some k) = refl
 
 abbrev pub isOpens : Call → Bool
 isOpens (opens k clock reply) = true
@@ -158,20 +101,24 @@ isOpens (closes s d clock reply) = false
 isOpens (aborts s) = false
 isOpens resets = false
 
-pub full-opens : (t : Tables) (k : Call) (a : Answer) (r : List ℕ) (n : Tables) → Meets t k a r n → a ≡ Full → isOpens k ≡ true
-full-opens t (opens k clock reply) a r n meets e = refl
-full-opens t (closes s d clock reply) a r n meets e = absurd (close-not-full t s d clock reply a r n meets e)
-full-opens t (aborts s) a r n meets e = absurd (told-apart isFull a a refl (ap isFull e) (abort-not-full (t .slots) s a (n .slots) (meets .0)))
-full-opens t resets a r n meets e = absurd (told-apart isFull a a refl (ap isFull e) (reset-not-full (t .slots) a (n .slots) (meets .0)))
+only-opens : (units : List ℕ) (ledger : Ledger) (k : Call) → isA 4 (expected units ledger k .answer) ≡ true → isOpens k ≡ true
+only-opens units ledger (opens k clock reply) e = refl
+only-opens units ledger (closes s d clock reply) e = sym (close-not-full units ledger s d clock reply) ∙ e
+only-opens units ledger (aborts s) e = sym (abort-not-full (entryAt ledger s)) ∙ e
+only-opens units ledger resets e = e
 
--- ---- after any run from sound tables, by the ledger of the history
+-- ---- after any run from sound tables
 
-module _ (t : Tables) (es : List Event) (m : Tables) (sound : SoundTables t) (ran : Ran t es m) (k : Asked) (clock : ℕ) (reply : List ℕ) (a : Answer)
-    (r : List ℕ) (n : Tables) (meets : Meets m (opens k clock reply) a r n) where
-  now-fits : Fits m (ledgerOf (starts (t .slots)) es)
-  now-fits = let s = sequence t es m sound ran in record { units-length = s .sound .units-length; slots-length = s .sound .slots-length; agrees = s .agrees }
-
-  pub full-exactly : (a ≡ Full → Passes (m .units) k clock reply × NoneFree (ledgerOf (starts (t .slots)) es))
+module _ (t : Tables) (es : List Event) (m : Tables) (sound : SoundTables t) (ran : Ran t es m) where
+  pub full-exactly : (k : Asked) (clock : ℕ) (reply : List ℕ) (a : Answer) (r : List ℕ) (n : Tables) → Meets m (opens k clock reply) a r n
+      → (a ≡ Full → Passes (m .units) k clock reply × NoneFree (ledgerOf (starts (t .slots)) es))
       × (Passes (m .units) k clock reply → NoneFree (ledgerOf (starts (t .slots)) es) → a ≡ Full)
-  full-exactly =
-      (full-only m (ledgerOf (starts (t .slots)) es) now-fits k clock reply a r n meets, full-always m (ledgerOf (starts (t .slots)) es) now-fits k clock reply a r n meets)
+  full-exactly k clock reply a r n meets =
+      let e = each-step t es m sound ran (opens k clock reply) a r n meets .answer in (
+        λ full. full-only (m .units) (ledgerOf (starts (t .slots)) es) k clock reply (ap (isA 4) (sym e ∙ full)),
+        λ p taken. e ∙ full-always (m .units) (ledgerOf (starts (t .slots)) es) k clock reply p taken,
+      )
+
+  pub full-opens : (k : Call) (a : Answer) (r : List ℕ) (n : Tables) → Meets m k a r n → a ≡ Full → isOpens k ≡ true
+  full-opens k a r n meets full =
+      only-opens (m .units) (ledgerOf (starts (t .slots)) es) k (ap (isA 4) (sym (each-step t es m sound ran k a r n meets .answer) ∙ full))

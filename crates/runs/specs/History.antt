@@ -1,5 +1,5 @@
 -- The key history of a key set: the keys that the starting keys and the GOOD key commands since say are valid, by version. It has no mask, no
--- place and no byte of a later record. A unit's key set is its own today (`keySetOf`).
+-- place and no byte of a later record.
 use mathlib.Core.Path.{_≡_}
 use mathlib.Core.Bool.{Bool, true, false}
 use mathlib.Core.Option.{Option, none, some}
@@ -9,12 +9,19 @@ use lib.Dec.{eqb}
 use lib.ListN.{replicate}
 use Rattle.choice.specs.Choice.{both, pick}
 use Rattle.hmac.specs.Hmac.{hmac, bySha1}
-use Rattle.units.specs.Unit.{step, identifier, authKey, genKey, nextAuthKey, nextGenKey, isValid, workingKey}
-use Rattle.judge.specs.Command.{codeOf, pageOf}
+use Rattle.model.specs.Protocol.{protocolOut, seedExchange, setKey, changeMaster}
+use Rattle.model.specs.Rows.{isMaster}
+use Rattle.model.specs.Answers.{isA}
+use Rattle.units.specs.Unit.{step, identifier, authKey, genKey, nextAuthKey, nextGenKey, isValid, workingKey, keeperOf, keySetOf}
+use Rattle.judge.specs.Command.{codeOf, pageOf, needFor, isChange, descriptorOf}
+use Rattle.judge.specs.Descriptor.{keyVersion}
+use Rattle.judge.specs.Checked.{Checked}
 use Rattle.pages.specs.Out.{newVersion, seed, agreed}
 use Rattle.pages.specs.Effects.{lastFlipped}
-use Rattle.runs.specs.Answers.{isHandled}
-use Rattle.runs.specs.Run.{Done}
+use Rattle.calls.specs.Outcome.{Tables}
+use Rattle.calls.specs.Whole.{Asked}
+use Rattle.runs.specs.Run.{Event}
+use Rattle.runs.specs.Ledger.{Done, dones, starts}
 
 pub record KeySet : Type 0 where
   pub name : List ℕ
@@ -40,8 +47,8 @@ startKeys rec =
     }
 
 -- Set Key: the version's key is HMAC under the generation master key over the seed
-abbrev pub keySet : ℕ → List ℕ → KeySet → KeySet
-keySet v s k =
+abbrev pub versionSet : ℕ → List ℕ → KeySet → KeySet
+versionSet v s k =
     record {
       name = k .name;
       auth = k .auth;
@@ -78,22 +85,27 @@ masterChanged k =
       working = λ v. none;
     }
 
--- a GOOD key command with its parameter list; Set Attributes leaves the keys
+-- a GOOD command with its parameter list, by its page; Set Attributes and any other page leave the keys alone
 unfoldable pub keyCommand : ℕ → List ℕ → KeySet → KeySet
 keyCommand page d k =
-    pick (eqb page 0x0011) k
-    (pick (eqb page 0x0014) (keySet (newVersion d) (seed d) k)
-    (pick (eqb page 0x0012) (seedExchanged (agreed d) k)
-    (masterChanged k)))
+    pick (eqb page setKey) (versionSet (newVersion d) (seed d) k)
+    (pick (eqb page seedExchange) (seedExchanged (agreed d) k)
+    (pick (eqb page changeMaster) (masterChanged k)
+    k))
 
--- is it a GOOD SECURITY PROTOCOL OUT at that unit?
-abbrev pub isKeyCommand : ℕ → Done → Bool
-isKeyCommand u x = both (eqb (x .what .unit) u) (both (eqb (codeOf (x .what .command)) 0xB5) (isHandled (x .answer)))
+-- is it a GOOD SECURITY PROTOCOL OUT at a unit with the same key set as unit u? By the starting unit table, since no call changes who keeps keys
+abbrev pub isKeyCommand : List ℕ → ℕ → Done → Bool
+isKeyCommand units u x =
+    both (eqb (keeperOf units (x .what .unit)) (keeperOf units u)) (both (eqb (codeOf (x .what .command)) protocolOut) (isA 0 (x .answer)))
 
 -- the keys after each whole command
-abbrev pub history : ℕ → KeySet → List Done → KeySet
-history u k [] = k
-history u k (x ∷ xs) = history u (pick (isKeyCommand u x) (keyCommand (pageOf (x .what .command)) (x .sent) k) k) xs
+abbrev pub history : List ℕ → ℕ → KeySet → List Done → KeySet
+history units u k [] = k
+history units u k (x ∷ xs) = history units u (pick (isKeyCommand units u x) (keyCommand (pageOf (x .what .command)) (x .sent) k) k) xs
+
+-- the keys of unit u's key set after the events es from the tables t
+abbrev pub keysBefore : Tables → List Event → ℕ → KeySet
+keysBefore t es u = history (t .units) u (startKeys (keySetOf (t .units) u)) (dones (starts (t .slots)) es)
 
 -- the key that the history says is valid for a command: a working row takes the version's; a master row wants version 0 and the
 -- authentication master key; Change wants version 0, a pending exchange and the next authentication master key
@@ -102,6 +114,15 @@ keySaid k master change v =
     pick master
     (pick (both (eqb v 0) (pick change (k .pending) true)) (some (pick change (k .next-auth) (k .auth))) none)
     (k .working v)
+
+abbrev pub keyFor : KeySet → List ℕ → Option (List ℕ)
+keyFor keys c = keySaid keys (isMaster (needFor c)) (isChange c) (keyVersion (descriptorOf c))
+
+-- every check, against the unit's record, with a key that the key set says is valid
+pub record CheckedBy (own : List ℕ) (keys : KeySet) (k : Asked) (clock : ℕ) : Type 0 where
+  pub key : List ℕ
+  pub valid : keyFor keys (k .command) ≡ some key
+  pub checks : Checked own key (k .command) (k .token) clock
 
 -- a record says what a key set says
 pub record Says (k : KeySet) (rec : List ℕ) : Type 0 where

@@ -6,25 +6,29 @@ use mathlib.Core.List.{List, [], _∷_, _++_}
 use Prim.Native.Nat.{ℕ, _*_, _<_}
 use native.Mathlib.Omega.{arith}
 use lib.Dec.{eqb}
-use lib.ListN.{length, drop, length-drop}
-use lib.Seq.{length-take-le}
+use lib.ListN.{length}
 use borrow.Author.Tests.{eqb-true, eqb-false, eq-eqb}
 use Rattle.choice.specs.Choice.{both, pick}
+use Rattle.wire.specs.Bytes.{patch}
+use Rattle.wire.specs.PatchLaws.{record-here}
 use Rattle.hmac.specs.Hmac.{hmac, bySha1}
-use Rattle.model.specs.declared.Answer.the-variants.{Good}
+use Rattle.model.specs.Protocol.{protocolOut, setAttributes, seedExchange, setKey, changeMaster}
+use Rattle.model.specs.Answers.{isA}
 use Rattle.model.specs.Refusal.{refusal}
-use Rattle.units.specs.Unit.{unitAt, step, isValid, workingKey}
+use Rattle.model.specs.declared.Answer.the-variants.{Good}
+use Rattle.units.specs.Unit.{unitAt, keeperOf, keySetOf, step, isValid, workingKey}
+use Rattle.units.specs.UnitLaws.{unit-length}
 use Rattle.judge.specs.Command.{codeOf, pageOf}
+use Rattle.judge.specs.Seen.{seen}
 use Rattle.pages.specs.Out.{newMethod, newTag, newVersion, seed, agreed, wrongList}
 use Rattle.pages.specs.OutLaws.{right-version}
-use Rattle.pages.specs.Effects.{attributesSet, workingKeySet, lastFlipped, nextAuth, nextGen, exchanged, changed, newRecord}
+use Rattle.pages.specs.Effects.{attributesSet, workingKeySet, lastFlipped, nextAuth, nextGen, exchanged, changed, newKeys}
 use Rattle.pages.specs.FieldLaws.{SameWorking}
-use Rattle.pages.specs.EffectLaws.{attributes-master, attributes-next, attributes-working, key-master, key-next, key-valid, key-working, key-other-valid, key-other-working, exchanged-master, exchanged-working, exchanged-step, exchanged-next-auth, exchanged-next-generation, changed-identifier, changed-auth, changed-generation, changed-valid, changed-step, changed-next-auth, changed-next-generation}
-use Rattle.runs.specs.Answers.{isHandled}
-use Rattle.runs.specs.Whole.{Whole, obeyed, whole}
-use Rattle.runs.specs.WholeCases.{whole-cases, whole-length, Obeys, obeys, obeyed-here, obeyed-others}
-use Rattle.runs.specs.Run.{Done, Singly}
-use Rattle.runs.specs.History.{KeySet, Says, startKeys, keySet, seedExchanged, masterChanged, keyCommand, isKeyCommand, history}
+use Rattle.pages.specs.EffectLaws.{attributes-length, attributes-master, attributes-next, attributes-working, key-master, key-next, key-valid, key-working, key-other-valid, key-other-working, exchanged-master, exchanged-working, exchanged-step, exchanged-next-auth, exchanged-next-generation, changed-identifier, changed-auth, changed-generation, changed-valid, changed-step, changed-next-auth, changed-next-generation, new-length}
+use Rattle.calls.specs.Whole.{attributes, keySet, madeBy, laid, Whole, whole}
+use Rattle.runs.specs.WholeLaws.{whole-cases, whole-length, Obeys, obeys, laid-others}
+use Rattle.runs.specs.Ledger.{Done, Singly}
+use Rattle.runs.specs.History.{KeySet, Says, startKeys, versionSet, seedExchanged, masterChanged, keyCommand, isKeyCommand, history}
 
 pub says-start : (rec : List ℕ) → Says (startKeys rec) rec
 says-start rec = record { name = refl; auth = refl; generation = refl; next-auth = refl; next-generation = refl; pending = refl; working = λ v h. refl }
@@ -51,7 +55,7 @@ module _ (k : KeySet) (rec : List ℕ) (says : Says k rec) (full : length rec �
         working = same-working k rec (attributesSet m t rec) (attributes-working m t rec full) says;
       }
 
-  says-key : (v : ℕ) (s : List ℕ) → v < 16 → Says (keySet v s k) (workingKeySet v s rec)
+  says-key : (v : ℕ) (s : List ℕ) → v < 16 → Says (versionSet v s k) (workingKeySet v s rec)
   says-key v s hv =
       let a = key-master v s rec hv full in
       let n = key-next v s rec hv full in
@@ -105,72 +109,100 @@ module _ (k : KeySet) (rec : List ℕ) (says : Says k rec) (full : length rec �
         working = λ v h. rw (changed-valid rec full v);
       }
 
-  pub says-command : (page : ℕ) (d : List ℕ) → wrongList page d ≡ false → Says (keyCommand page d k) (newRecord page d rec)
-  unfolding keyCommand newRecord
-  says-command page d right = by-page (eqb page 0x0011) (eqb page 0x0014) (eqb page 0x0012) refl
+  says-keys : (page : ℕ) (d : List ℕ) → wrongList page d ≡ false → Says (keyCommand page d k) (newKeys page d rec)
+  unfolding keyCommand newKeys
+  says-keys page d right = by-page (eqb page setKey) (eqb page seedExchange) (eqb page changeMaster) refl
     where
-      by-page : (a b c : Bool) → eqb page 0x0014 ≡ b
-          → Says (pick a k (pick b (keySet (newVersion d) (seed d) k) (pick c (seedExchanged (agreed d) k) (masterChanged k))))
-          (pick a (attributesSet (newMethod d) (newTag d) rec) (pick b (workingKeySet (newVersion d) (seed d) rec) (pick c (exchanged (agreed d) rec) (changed rec))))
-      by-page true b c e = says-attributes (newMethod d) (newTag d)
-      by-page false true c e = says-key (newVersion d) (seed d) (right-version page d (eqb-true page 0x0014 e) right)
-      by-page false false true e = says-exchanged (agreed d)
-      by-page false false false e = says-changed
+      by-page : (a b c : Bool) → eqb page setKey ≡ a
+          → Says (pick a (versionSet (newVersion d) (seed d) k) (pick b (seedExchanged (agreed d) k) (pick c (masterChanged k) k)))
+          (pick a (workingKeySet (newVersion d) (seed d) rec) (pick b (exchanged (agreed d) rec) (pick c (changed rec) rec)))
+      by-page true b c e = says-key (newVersion d) (seed d) (right-version page d (eqb-true page setKey e) right)
+      by-page false true c e = says-exchanged (agreed d)
+      by-page false false true e = says-changed
+      by-page false false false e = says
+
+  -- Set Attributes leaves the keys alone
+  says-policy : (page : ℕ) (d : List ℕ) → page ≡ setAttributes → Says (keyCommand page d k) (attributesSet (newMethod d) (newTag d) rec)
+  unfolding keyCommand
+  says-policy page d e = rw e (says-attributes (newMethod d) (newTag d))
+
+-- ---- an Out page that is obeyed, at its own unit
+
+module _ (units : List ℕ) (u page : ℕ) (d : List ℕ) (o : Obeys units u page d) (k : KeySet) (says : Says k (keySetOf units u)) where
+  here : (rec : List ℕ) → length rec ≡ 512 → unitAt u (patch units (u * 512) rec) ≡ rec
+  here rec long = let h = o .small in let full = o .full in record-here units u rec long (omega arith)
+
+  by-kind : (b : Bool) → eqb page setAttributes ≡ b
+      → Says (keyCommand page d k) (keySetOf (laid units u (pick b (attributes (attributesSet (newMethod d) (newTag d) (unitAt u units))) (keySet (newKeys page d (keySetOf units u))))) u)
+  unfolding keySetOf keeperOf
+  by-kind true e =
+      let full = unit-length u units (o .full) (o .small) in
+      rw (here (attributesSet (newMethod d) (newTag d) (unitAt u units)) (attributes-length (newMethod d) (newTag d) (unitAt u units) full))
+      (says-policy k (unitAt u units) says full page d (eqb-true page setAttributes e))
+  by-kind false e =
+      let full = unit-length u units (o .full) (o .small) in
+      rw (here (newKeys page d (unitAt u units)) (new-length page d (unitAt u units) (o .right) full)) (says-keys k (unitAt u units) says full page d (o .right))
+
+  pub says-made : Says (keyCommand page d k) (keySetOf (laid units u (madeBy (seen units u) page d)) u)
+  unfolding madeBy
+  says-made = by-kind (eqb page setAttributes) refl
 
 -- ---- a whole command, at any unit
+
+keys-kept : (us new : List ℕ) (u : ℕ) (k : KeySet) → unitAt u new ≡ unitAt u us → Says k (keySetOf us u) → Says k (keySetOf new u)
+unfolding keySetOf keeperOf
+keys-kept us new u k e says = rw e says
 
 never : (a b : Bool) → both a (both b false) ≡ false
 never true true = refl
 never true false = refl
 never false b = refl
 
-module _ (us : List ℕ) (full : length us ≡ 4096) (u : ℕ) (h : u < 8) (k : KeySet) (says : Says k (unitAt u us)) (x : Done) where
+off : (b : Bool) → both b false ≡ false
+off true = refl
+off false = refl
+
+module _ (start us : List ℕ) (full : length us ≡ 4096) (u : ℕ) (k : KeySet) (says : Says k (keySetOf us u)) (x : Done) where
   Told : Whole → Type 0
-  Told w = w .answer ≡ x .answer → Says (pick (isKeyCommand u x) (keyCommand (pageOf (x .what .command)) (x .sent) k) k) (unitAt u (w .units))
+  Told w = w .answer ≡ x .answer → Says (pick (isKeyCommand start u x) (keyCommand (pageOf (x .what .command)) (x .sent) k) k) (keySetOf (w .units) u)
 
-  -- the record of this unit is as it was, and the command is no key command here
-  stays : (us′ : List ℕ) → unitAt u us′ ≡ unitAt u us → isKeyCommand u x ≡ false
-      → Says (pick (isKeyCommand u x) (keyCommand (pageOf (x .what .command)) (x .sent) k) k) (unitAt u us′)
-  stays us′ e n = rw (n, e) says
-
-  rec-full : length (unitAt u us) ≡ 512
-  rec-full = length-take-le 512 (drop (u * 512) us) (rw length-drop (omega arith))
-
-  obeyed-says : Obeys us (x .what) (x .sent) (x .clock) full → eqb (codeOf (x .what .command)) 0xB5 ≡ true → Good 0 ≡ x .answer
-      → Says (pick (isKeyCommand u x) (keyCommand (pageOf (x .what .command)) (x .sent) k) k) (unitAt u (obeyed us (x .what .unit) (x .what .command) (x .sent)))
+  obeyed-says : Obeys us (x .what .unit) (pageOf (x .what .command)) (x .sent) → eqb (codeOf (x .what .command)) protocolOut ≡ true → Good 0 ≡ x .answer
+      → Says (pick (isKeyCommand start u x) (keyCommand (pageOf (x .what .command)) (x .sent) k) k)
+      (keySetOf (laid us (x .what .unit) (madeBy (seen us (x .what .unit)) (pageOf (x .what .command)) (x .sent))) u)
+  unfolding keeperOf
   obeyed-says o t e = by-unit (eqb (x .what .unit) u) refl
     where
+      new : List ℕ
+      new = laid us (x .what .unit) (madeBy (seen us (x .what .unit)) (pageOf (x .what .command)) (x .sent))
+
       by-unit : (b : Bool) → eqb (x .what .unit) u ≡ b
-          → Says (pick (isKeyCommand u x) (keyCommand (pageOf (x .what .command)) (x .sent) k) k) (unitAt u (obeyed us (x .what .unit) (x .what .command) (x .sent)))
+          → Says (pick (both b (both (eqb (codeOf (x .what .command)) protocolOut) (isA 0 (x .answer)))) (keyCommand (pageOf (x .what .command)) (x .sent) k) k) (keySetOf new u)
       by-unit true p =
           let same = eqb-true (x .what .unit) u p in
-          let here : unitAt u (obeyed us (x .what .unit) (x .what .command) (x .sent)) ≡ newRecord (pageOf (x .what .command)) (x .sent) (unitAt u us) =
-          subst (λ (v : ℕ). unitAt v (obeyed us (x .what .unit) (x .what .command) (x .sent)) ≡ newRecord (pageOf (x .what .command)) (x .sent) (unitAt v us)) same
-          (obeyed-here us (x .what) (x .sent) (x .clock) full o) in
-          rw (p, t, ← e, here) (says-command k (unitAt u us) says rec-full (pageOf (x .what .command)) (x .sent) (o .right))
+          let says′ : Says k (keySetOf us (x .what .unit)) = subst (λ (v : ℕ). Says k (keySetOf us v)) (sym same) says in
+          rw (t, ← e) (subst (λ (v : ℕ). Says (keyCommand (pageOf (x .what .command)) (x .sent) k) (keySetOf new v)) same (says-made us (x .what .unit) (pageOf (x .what .command)) (x .sent) o k says′))
       by-unit false p =
           let ne = eqb-false (x .what .unit) u p in
-          stays (obeyed us (x .what .unit) (x .what .command) (x .sent)) (obeyed-others us (x .what) (x .sent) (x .clock) full o u ne) (rw p)
+          keys-kept us new u k (laid-others us (x .what .unit) (pageOf (x .what .command)) (x .sent) o u ne ne) says
 
-  pub says-whole : whole us (x .what) (x .sent) (x .clock) .answer ≡ x .answer
-      → Says (pick (isKeyCommand u x) (keyCommand (pageOf (x .what .command)) (x .sent) k) k) (unitAt u (whole us (x .what) (x .sent) (x .clock) .units))
+  says-whole : whole us (x .what) (x .sent) (x .clock) .answer ≡ x .answer
+      → Says (pick (isKeyCommand start u x) (keyCommand (pageOf (x .what .command)) (x .sent) k) k) (keySetOf (whole us (x .what) (x .sent) (x .clock) .units) u)
   unfolding Told refusal
   says-whole =
       whole-cases us (x .what) (x .sent) (x .clock) Told
-      (λ n e. stays us refl (ap (λ b. both (eqb (x .what .unit) u) (both (eqb (codeOf (x .what .command)) 0xB5) b)) (sym (ap isHandled e)) ∙ never (eqb (x .what .unit) u) (eqb (codeOf (x .what .command)) 0xB5)))
+      (λ n e. stays (ap (λ b. both (eqb (keeperOf start (x .what .unit)) (keeperOf start u)) (both (eqb (codeOf (x .what .command)) protocolOut) b)) (sym (ap (isA 0) e)) ∙ never (eqb (keeperOf start (x .what .unit)) (keeperOf start u)) (eqb (codeOf (x .what .command)) protocolOut)))
       (λ z t e. obeyed-says (obeys us (x .what) (x .sent) (x .clock) full z t) t e)
-      (λ z f r e. stays us refl (rw f (off (eqb (x .what .unit) u))))
-      (λ z f r e. stays us refl (rw f (off (eqb (x .what .unit) u))))
+      (λ z f r e. stays (rw f (off (eqb (keeperOf start (x .what .unit)) (keeperOf start u)))))
+      (λ z f r e. stays (rw f (off (eqb (keeperOf start (x .what .unit)) (keeperOf start u)))))
     where
-      off : (b : Bool) → both b false ≡ false
-      off true = refl
-      off false = refl
+      stays : isKeyCommand start u x ≡ false → Says (pick (isKeyCommand start u x) (keyCommand (pageOf (x .what .command)) (x .sent) k) k) (keySetOf us u)
+      stays n = rw n says
 
 -- ---- any run of whole commands: the records say what the starting keys and the GOOD key commands since say
 
-pub says-run : (xs : List Done) (us ns : List ℕ) → length us ≡ 4096 → (u : ℕ) → u < 8 → (k : KeySet) → Says k (unitAt u us) → Singly us xs ns
-    → Says (history u k xs) (unitAt u ns)
-says-run [] us ns full u h k says p = subst (λ (z : List ℕ). Says k (unitAt u z)) p says
-says-run (x ∷ xs) us ns full u h k says p =
-    says-run xs (whole us (x .what) (x .sent) (x .clock) .units) ns (whole-length us (x .what) (x .sent) (x .clock) full) u h
-    (pick (isKeyCommand u x) (keyCommand (pageOf (x .what .command)) (x .sent) k) k) (says-whole us full u h k says x (p .0)) (p .2)
+pub says-run : (start : List ℕ) (xs : List Done) (us ns : List ℕ) → length us ≡ 4096 → (u : ℕ) (k : KeySet) → Says k (keySetOf us u) → Singly us xs ns
+    → Says (history start u k xs) (keySetOf ns u)
+says-run start [] us ns full u k says p = subst (λ (z : List ℕ). Says k (keySetOf z u)) p says
+says-run start (x ∷ xs) us ns full u k says p =
+    says-run start xs (whole us (x .what) (x .sent) (x .clock) .units) ns (whole-length us (x .what) (x .sent) (x .clock) full) u
+    (pick (isKeyCommand start u x) (keyCommand (pageOf (x .what .command)) (x .sent) k) k) (says-whole start us full u k says x (p .0)) (p .2)

@@ -1,133 +1,173 @@
--- What each answer leaves, as document 01's table has it ("What a call gets and gives"): of an open and of a close.
-use mathlib.Core.Path.{_≡_, refl, sym, ap, _∙_, subst}
-use mathlib.Core.Bool.{true}
-use mathlib.Core.List.{List}
+-- What each answer leaves, as document 01's table has it ("What a call gets and gives"): of an open and of a close, by the answer's number.
+use mathlib.Core.Path.{_≡_, refl, sym, ap, ap₂, _∙_, subst}
+use mathlib.Core.Bool.{true, false}
+use mathlib.Core.List.{List, []}
 use Prim.Native.Nat.{ℕ}
 use native.Mathlib.Omega.{arith}
 use lib.Dec.{eqb}
-use lib.ListN.{length, take, drop}
-use lib.Seq.{take-at, drop-at, length-take-le}
-use Rattle.wire.specs.Bytes.{number, patch}
+use lib.ListN.{length, drop}
+use lib.Seq.{drop-at}
+use borrow.Author.Tests.{eqb-true, ne-eqb}
+use Rattle.choice.specs.Choice.{pick}
+use Rattle.choice.specs.ChoiceLaws.{both-true}
+use Rattle.wire.specs.Bytes.{patch}
 use Rattle.model.specs.Codes.{dataOut}
 use Rattle.model.specs.CodeLaws.{legal-small}
-use Rattle.model.specs.Refusal.{refusal}
-use Rattle.model.specs.declared.SlotNo.{SlotNo}
+use Rattle.model.specs.Paper.{No, A, H, paperOf}
+use Rattle.model.specs.Answers.{isNumberA, isA, isFinal, countIn, slotIn}
 use Rattle.model.specs.declared.Answer.{Answer}
-use Rattle.model.specs.declared.Answer.the-variants.{Good, Parked, Run, Check, Full, H1, H2, H3, H4, H5}
-use Rattle.units.specs.Unit.{unitAt, keySetOf}
-use Rattle.slots.specs.Slot.{slotAt, slotUnit, slotCommand, lowestFree, parked, freed}
+use Rattle.model.specs.declared.Answer.the-variants.{Parked, Full, H1, H2, H3}
+use Rattle.units.specs.Unit.{unitAt, keeperOf}
+use Rattle.slots.specs.Slot.{slotAt, slotUnit, rightToken, lowestFree, freed}
+use Rattle.slots.specs.SlotLaws.{token-is}
 use Rattle.slots.specs.SearchLaws.{lowest}
 use Rattle.slots.specs.RoundLaws.{parked-other}
-use Rattle.slots.specs.declared.Found.the-variants.{At}
-use Rattle.judge.specs.Command.{codeOf, pageOf}
-use Rattle.judge.specs.Judgement.{openReason}
-use Rattle.judge.specs.OrderLaws.{open-passed}
-use Rattle.pages.specs.In.{inPage, sizeOf, countOf}
-use Rattle.pages.specs.InLaws.{page-size}
-use Rattle.calls.specs.Lent.{Lent, lent, gives, one-outcome}
-use Rattle.calls.specs.Open.{applyOpen, openOut}
-use Rattle.calls.specs.OpenLaws.{lengths-are, token-is, count-least}
-use Rattle.calls.specs.Close.{applyClose, closeOut}
-use Rattle.runs.specs.Cases.{Opens, open-cases, Closes, close-cases, slotReason}
-use Rattle.runs.specs.Whole.{Asked, obeyed, heldBy}
-use Rattle.runs.specs.WholeCases.{obeys, obeyed-others}
-use Rattle.calls.specs.declared.opening.Opening.{Opening}
-use Rattle.calls.specs.declared.closing.Closing.{Closing}
+use Rattle.slots.specs.declared.Found.{Found}
+use Rattle.slots.specs.declared.Found.the-variants.{At, Nothing}
+use Rattle.judge.specs.Command.{codeOf}
+use Rattle.judge.specs.Seen.{seen}
+use Rattle.judge.specs.JudgementLaws.{open-passed}
+use Rattle.calls.specs.Outcome.{Lent, lent, tables, Outcome, gives, withSlots, onSlots, rightlyLent}
+use Rattle.calls.specs.OutcomeLaws.{one-outcome, lengths-are}
+use Rattle.calls.specs.Slots.{holds}
+use Rattle.calls.specs.Whole.{Asked, Whole, whole}
+use Rattle.calls.specs.WholeLaws.{patch-none}
+use Rattle.calls.specs.Open.{reasonAtOpen, parks, parkedIn, openOut}
+use Rattle.calls.specs.Close.{heldBy, closeOut}
+use Rattle.calls.specs.CloseLaws.{holds-open, held-silent}
+use Rattle.runs.specs.WholeLaws.{whole-cases, whole-final, whole-written, whole-others}
+use Rattle.runs.specs.StepLaws.{open-by, close-by}
+use Rattle.runs.specs.FinalLaws.{answered-code}
 
--- an open: A0 keeps the tables and all of the reply but its first count bytes, A1 all but that slot, every other answer all
-abbrev pub LeftByOpen : Lent → Lent → Answer → Type 0
-LeftByOpen l m (Good n) = (m .units ≡ l .units) × (m .slots ≡ l .slots) × (drop n (m .reply) ≡ drop n (l .reply))
-LeftByOpen l m (Parked s) = (m .units ≡ l .units) × (m .reply ≡ l .reply) × ((j : ℕ) → (s .0 ≡ j → ⊥) → slotAt j (m .slots) ≡ slotAt j (l .slots))
-LeftByOpen l m Run = m ≡ l
-LeftByOpen l m (Check s) = m ≡ l
-LeftByOpen l m Full = m ≡ l
-LeftByOpen l m H1 = m ≡ l
-LeftByOpen l m H2 = m ≡ l
-LeftByOpen l m H3 = m ≡ l
-LeftByOpen l m H4 = m ≡ l
-LeftByOpen l m H5 = m ≡ l
+-- an open: the unit table is kept; every slot but that of A1 keeps its bytes, and under any other answer the slot table is the same; the
+-- reply is kept but for its first count bytes, and only A0 has a count
+pub record LeftByOpen (l m : Lent) (a : Answer) : Type 0 where
+  pub units : m .tabled .units ≡ l .tabled .units
+  pub others : (j : ℕ) → (isA 1 a ≡ true → slotIn a ≡ j → ⊥) → slotAt j (m .tabled .slots) ≡ slotAt j (l .tabled .slots)
+  pub slots : isA 1 a ≡ false → m .tabled .slots ≡ l .tabled .slots
+  pub reply : drop (countIn a) (m .reply) ≡ drop (countIn a) (l .reply)
 
--- a close: A0, A2 and A3 free the slot, and A0 alone may make one unit's record anew; every other answer leaves all
-abbrev pub LeftByClose : Lent → Lent → ℕ → Answer → Type 0
-LeftByClose l m s (Good n) =
-    (m .slots ≡ freed s (l .slots)) × (m .reply ≡ l .reply) × (n ≡ 0)
-    × ((v : ℕ) → (slotUnit (slotAt s (l .slots)) ≡ v → ⊥) → unitAt v (m .units) ≡ unitAt v (l .units))
-LeftByClose l m s (Parked i) = m ≡ l
-LeftByClose l m s Run = m ≡ lent (l .units) (freed s (l .slots)) (l .reply)
-LeftByClose l m s (Check x) = m ≡ lent (l .units) (freed s (l .slots)) (l .reply)
-LeftByClose l m s Full = m ≡ l
-LeftByClose l m s H1 = m ≡ l
-LeftByClose l m s H2 = m ≡ l
-LeftByClose l m s H3 = m ≡ l
-LeftByClose l m s H4 = m ≡ l
-LeftByClose l m s H5 = m ≡ l
+-- a close of slot s: the reply is kept, and A0 says count 0; A0, A2 and A3 free the slot, and no other slot changes; the unit table is kept
+-- but under A0, which may make the record of the slot's unit anew, or that of its keeper
+pub record LeftByClose (l m : Lent) (s : ℕ) (a : Answer) : Type 0 where
+  pub reply : m .reply ≡ l .reply
+  pub count : countIn a ≡ 0
+  pub slots : m .tabled .slots ≡ pick (isFinal a) (freed s (l .tabled .slots)) (l .tabled .slots)
+  pub units : isA 0 a ≡ false → m .tabled .units ≡ l .tabled .units
+  pub others : (v : ℕ) → (slotUnit (slotAt s (l .tabled .slots)) ≡ v → ⊥)
+      → (keeperOf (l .tabled .units) (slotUnit (slotAt s (l .tabled .slots))) ≡ v → ⊥)
+      → unitAt v (m .tabled .units) ≡ unitAt v (l .tabled .units)
+
+-- an outcome that is known tells the answer and what is left
+told : (P : Lent → Answer → Type 0) (m n : Lent) (a b : Answer) → gives a m ≡ gives b n → P n b → P m a
+told P m n a b e h =
+    let p = one-outcome a b m n (gives b n) e refl in
+    subst (λ (x : Answer). P m x) (sym (p .0)) (subst (λ (x : Lent). P x b) (sym (p .1)) h)
 
 -- ---- an open
 
 -- bytes that are written at the front leave those behind them
-pub behind-front : (l ys : List ℕ) (n : ℕ) → length ys ≡ n → drop n (patch l 0 ys) ≡ drop n l
+behind-front : (l ys : List ℕ) (n : ℕ) → length ys ≡ n → drop n (patch l 0 ys) ≡ drop n l
 unfolding patch
 behind-front l ys n e = drop-at ys (drop (length ys) l) n e ∙ ap (λ (k : ℕ). drop k l) e
 
--- and stand there
-pub front-written : (l ys : List ℕ) (n : ℕ) → length ys ≡ n → take n (patch l 0 ys) ≡ ys
-unfolding patch
-front-written l ys n e = take-at ys (drop (length ys) l) n e
+-- a command that is answered at once leaves the unit table: B5h carries data out
+unparked-units : (units : List ℕ) (k : Asked) (clock : ℕ) → parks units k clock ≡ false → whole units k [] clock .units ≡ units
+unparked-units units k clock p =
+    whole-cases units k [] clock (λ (w : Whole). w .units ≡ units) (λ n. refl) (λ z t. absurd (answered-code units k clock p z t))
+    (λ z f r. refl) (λ z f r. refl)
 
--- an outcome that is known tells the answer and what is left
-told-open : (l m k : Lent) (a b : Answer) → gives a m ≡ gives b k → LeftByOpen l k b → LeftByOpen l m a
-told-open l m k a b e h =
-    let p = one-outcome a b m k (gives b k) e refl in
-    subst (λ (x : Answer). LeftByOpen l m x) (sym (p .0)) (subst (λ (x : Lent). LeftByOpen l x b) (sym (p .1)) h)
+module _ (l : Lent) (k : Asked) (clock : ℕ) where
+  all-kept : (a : Answer) → LeftByOpen l l a
+  all-kept a = record { units = refl; others = λ j n. refl; slots = λ f. refl; reply = refl }
 
-pub open-leaves : (l : Lent) (u : ℕ) (c token : List ℕ) (clock : ℕ) (a : Answer) (m : Lent) → gives a m ≡ openOut l u c token clock → LeftByOpen l m a
-unfolding openOut refusal
-open-leaves l u c token clock a m e =
-    open-cases l u c token clock (λ (p : Opening). gives a m ≡ applyOpen l u c token p → LeftByOpen l m a)
-    (λ h k. told-open l m l a H1 k refl)
-    (λ h t k. told-open l m l a H2 k refl)
-    (λ h t n k. told-open l m l a (refusal (openReason (l .units) u c token clock)) k refl)
-    (λ o d s f k. told-open l m _ a (Parked s) k (refl, refl, λ j ne. other o d s f j ne))
-    (λ o d f k. told-open l m l a Full k refl)
-    (λ o d r k. told-open l m _ a (Good count) k (refl, refl, behind-front (l .reply) _ count (written o)))
-    (λ o d r k. told-open l m l a Run k refl) e
-  where
-    count : ℕ
-    count = countOf (sizeOf (pageOf c)) (number 4 6 c)
+  by-slot : rightlyLent l ≡ true → rightToken (length (k .token)) ≡ true → parks (l .tabled .units) k clock ≡ true
+      → (f : Found) → lowestFree (l .tabled .slots) ≡ f → (a : Answer) (m : Lent) → gives a m ≡ onSlots l (parkedIn (l .tabled .slots) k f)
+      → LeftByOpen l m a
+  by-slot h g p Nothing f a m e = told (LeftByOpen l) m l a Full e (all-kept Full)
+  by-slot h g p (At s) f a m e =
+      let q = both-true (eqb (reasonAtOpen (l .tabled .units) k clock) 0) (dataOut (codeOf (k .command))) p in
+      let o = open-passed (seen (l .tabled .units) (k .unit)) (k .command) (k .token) clock (eqb-true _ 0 (q .0)) in
+      let n = legal-small (codeOf (k .command)) (length (k .command)) (o .legal) in
+      let other =
+      parked-other (s .0) (k .unit) (k .command) (k .token) (l .tabled .slots) (omega arith) (token-is _ g .1) (lengths-are _ _ _ h .1)
+      (lowest (l .tabled .slots) s f .0) in
+      told (LeftByOpen l) m _ a (Parked s) e
+      (record {
+        units = refl;
+        others = λ j ne. other j (ne refl);
+        slots = λ z. let o : _≡_ {A = ℕ} 0 1 = cc in absurd (omega arith);
+        reply = refl;
+      })
 
-    written : Opens l u c token clock → length (take count (inPage (pageOf c) (unitAt u (l .units)) (keySetOf (l .units) u))) ≡ count
-    written o = length-take-le count _ (rw (page-size (pageOf c) (unitAt u (l .units)) (keySetOf (l .units) u)) (count-least (sizeOf (pageOf c)) (number 4 6 c)))
+  pub open-leaves : (a : Answer) (m : Lent) → gives a m ≡ openOut l k clock → LeftByOpen l m a
+  open-leaves a m =
+      open-by l k clock (λ (o : Outcome). gives a m ≡ o → LeftByOpen l m a)
+      (λ h e. told (LeftByOpen l) m l a H1 e (all-kept H1))
+      (λ h g e. told (LeftByOpen l) m l a H2 e (all-kept H2))
+      (λ h g p e. by-slot h g p (lowestFree (l .tabled .slots)) refl a m e)
+      (λ h g p e. let w = whole (l .tabled .units) k [] clock in
+      told (LeftByOpen l) m _ a (w .answer) e
+      (record {
+        units = unparked-units (l .tabled .units) k clock p;
+        others = λ j n. refl;
+        slots = λ f. refl;
+        reply = behind-front (l .reply) (w .written) (countIn (w .answer)) (whole-written (l .tabled .units) k [] clock);
+      }))
 
-    other : Opens l u c token clock → dataOut (codeOf c) ≡ true → (s : SlotNo) → lowestFree (l .slots) ≡ At s → (j : ℕ) → (s .0 ≡ j → ⊥)
-        → slotAt j (parked (s .0) u c token (l .slots)) ≡ slotAt j (l .slots)
-    other o d s f j ne =
-        let n = legal-small (codeOf c) (length c) (open-passed (l .units) u c token clock (o .none) .legal) in
-        let t = token-is (length token) (o .token-length) in
-        let k = lengths-are _ _ _ (o .lengths) in
-        parked-other (s .0) u c token (l .slots) (omega arith) (t .1) (k .1) (lowest (l .slots) s f .0) j ne
+-- A2, A3, A4, H1 and H2 to an open leave every byte
+pub open-keeps : (l m : Lent) (a : Answer) → LeftByOpen l m a → isA 0 a ≡ false → isA 1 a ≡ false → m ≡ l
+open-keeps l m a left not-0 not-1 =
+    let r : m .reply ≡ l .reply = rw not-0 at (left .reply) in
+    ap₂ lent (ap₂ tables (left .units) (left .slots not-1)) r
+
+-- an answer has one number
+one-number : (no : No) (n m : ℕ) → (n ≡ m → ⊥) → isNumberA n no ≡ true → isNumberA m no ≡ false
+one-number (A x) n m ne e = let q = eqb-true x n e in ne-eqb x m (λ z. ne (omega arith))
+one-number (H x) n m ne e = refl
+
+pub refusal-keeps : (l m : Lent) (a : Answer) → LeftByOpen l m a → isA 3 a ≡ true → m ≡ l
+refusal-keeps l m a left e =
+    open-keeps l m a left (one-number (paperOf a .no) 3 0 (λ z. omega arith) e) (one-number (paperOf a .no) 3 1 (λ z. omega arith) e)
 
 -- ---- a close
 
-told-close : (l m k : Lent) (s : ℕ) (a b : Answer) → gives a m ≡ gives b k → LeftByClose l k s b → LeftByClose l m s a
-told-close l m k s a b e h =
-    let p = one-outcome a b m k (gives b k) e refl in
-    subst (λ (x : Answer). LeftByClose l m s x) (sym (p .0)) (subst (λ (x : Lent). LeftByClose l x s b) (sym (p .1)) h)
+good-units : (units : List ℕ) (k : Asked) (d : List ℕ) (clock : ℕ) → isA 0 (whole units k d clock .answer) ≡ false
+    → whole units k d clock .units ≡ units
+good-units units k d clock =
+    whole-cases units k d clock (λ (w : Whole). isA 0 (w .answer) ≡ false → w .units ≡ units) (λ n e. refl)
+    (λ z t e. let o : _≡_ {A = ℕ} 0 1 = cc in absurd (omega arith)) (λ z f r e. refl) (λ z f r e. refl)
 
-pub close-leaves : (l : Lent) (s : ℕ) (d : List ℕ) (clock : ℕ) (a : Answer) (m : Lent) → gives a m ≡ closeOut l s d clock → LeftByClose l m s a
-unfolding closeOut refusal
-close-leaves l s d clock a m e =
-    close-cases l s d clock (λ (p : Closing). gives a m ≡ applyClose l s d p → LeftByClose l m s a)
-    (λ h k. told-close l m l s a H1 k refl)
-    (λ h n k. told-close l m l s a H3 k refl)
-    (λ o n k. told-close l m _ s a (refusal (slotReason l s d clock)) k refl)
-    (λ o z t k. told-close l m _ s a (Good 0) k (refl, refl, refl, λ v ne. others o z t v ne))
-    (λ o z t k. told-close l m _ s a Run k refl) e
-  where
-    q : Asked
-    q = heldBy (slotAt s (l .slots))
+module _ (l : Lent) (s : ℕ) (d : List ℕ) (clock : ℕ) where
+  close-kept : (a : Answer) → isFinal a ≡ false → countIn a ≡ 0 → LeftByClose l l s a
+  close-kept a f z = record { reply = refl; count = z; slots = rw f; units = λ e. refl; others = λ v n m. refl }
 
-    others : Closes l s → slotReason l s d clock ≡ 0 → eqb (codeOf (slotCommand (slotAt s (l .slots)))) 0xB5 ≡ true → (v : ℕ)
-        → (slotUnit (slotAt s (l .slots)) ≡ v → ⊥) → unitAt v (obeyed (l .units) (q .unit) (q .command) d) ≡ unitAt v (l .units)
-    others o z t v ne =
-        let full = lengths-are _ _ _ (o .lengths) .0 in
-        obeyed-others (l .units) q d clock full (obeys (l .units) q d clock full z t) v ne
+  abbrev k : Asked
+  k = heldBy (slotAt s (l .tabled .slots))
+
+  abbrev w : Whole
+  w = whole (l .tabled .units) k d clock
+
+  pub close-leaves : (a : Answer) (m : Lent) → gives a m ≡ closeOut l s d clock → LeftByClose l m s a
+  close-leaves a m =
+      close-by l s d clock (λ (o : Outcome). gives a m ≡ o → LeftByClose l m s a)
+      (λ h e. told (λ (x : Lent) (b : Answer). LeftByClose l x s b) m l a H1 e (close-kept H1 refl refl))
+      (λ h g e. told (λ (x : Lent) (b : Answer). LeftByClose l x s b) m l a H3 e (close-kept H3 refl refl))
+      (λ h g e. told (λ (x : Lent) (b : Answer). LeftByClose l x s b) m _ a (w .answer) e (closed h g))
+    where
+      closed : rightlyLent l ≡ true → holds (l .tabled .slots) s ≡ true
+          → LeftByClose l (lent (tables (w .units) (freed s (l .tabled .slots))) (patch (l .reply) 0 (w .written))) s (w .answer)
+      closed h g =
+          let silent = held-silent (l .tabled .units) (slotAt s (l .tabled .slots)) d clock (holds-open (l .tabled .slots) s g .1) in
+          record {
+            reply = ap (patch (l .reply) 0) silent ∙ patch-none (l .reply);
+            count = sym (whole-written (l .tabled .units) k d clock) ∙ ap length silent;
+            slots = rw (whole-final (l .tabled .units) k d clock);
+            units = good-units (l .tabled .units) k d clock;
+            others = whole-others (l .tabled .units) k d clock (lengths-are _ _ _ h .0);
+          }
+
+-- A2 and A3 to a close free its slot, and leave every other byte
+pub close-keeps : (l m : Lent) (s : ℕ) (a : Answer) → LeftByClose l m s a → isA 0 a ≡ false → isFinal a ≡ true
+    → m ≡ withSlots (freed s (l .tabled .slots)) l
+close-keeps l m s a left not-0 final = ap₂ lent (ap₂ tables (left .units not-0) (rw final at (left .slots))) (left .reply)

@@ -2,43 +2,29 @@
 -- each command the final answer, and leaves the records, of whole commands run singly, each at the step that answered it and with that
 -- step's clock.
 use mathlib.Core.Path.{_≡_, refl, sym, ap, ap₂, _∙_, subst}
-use mathlib.Core.Bool.{Bool, true, false}
+use mathlib.Core.Bool.{false}
 use mathlib.Core.Option.{Option, none, some}
 use mathlib.Core.List.{List, [], _∷_, _++_}
-use Prim.Native.Nat.{ℕ, _+_, _<_}
+use Prim.{Unit, tt}
+use Prim.Native.Nat.{ℕ, _+_}
 use native.Mathlib.Omega.{arith}
-use lib.Dec.{eqb}
 use lib.ListN.{length, length-append}
-use borrow.Author.Tests.{eqb-true, eqb-false}
-use Rattle.units.specs.Unit.{unitAt, unitState, unitStateOf}
-use Rattle.slots.specs.Slot.{slotAt}
+use Rattle.slots.specs.Slot.{slotAt, slotStateOf}
+use Rattle.slots.specs.declared.SlotState.{SlotState}
+use Rattle.slots.specs.declared.SlotState.the-variants.{Free, Open, Unsound}
 use Rattle.judge.specs.Judgement.{isUnsound}
-use Rattle.runs.specs.Whole.{Asked, whole}
-use Rattle.runs.specs.WholeCases.{whole-length, whole-others, whole-state}
-use Rattle.runs.specs.Run.{Tables, Event, Ran, Ledger, after, ledgerOf, View, vacant, held, damaged, view, toView, ofView, starts, Agrees, Done, doneIn, dones, Singly, finals, KeepsReply, Fits}
-use Rattle.runs.specs.StepLaws.{step}
-
--- ---- the premise: tables of their sizes, every unit record sound (used or unused), every slot sound (open or free)
-
-abbrev pub isDamaged : View → Bool
-isDamaged vacant = false
-isDamaged (held k) = false
-isDamaged damaged = true
-
-abbrev pub SoundUnits : List ℕ → Type 0
-SoundUnits units = (u : ℕ) → u < 8 → isUnsound (unitState units u) ≡ false
-
-pub record SoundTables (t : Tables) : Type 0 where
-  pub units-length : length (t .units) ≡ 4096
-  pub slots-length : length (t .slots) ≡ 8192
-  pub units-sound : SoundUnits (t .units)
-  pub slots-sound : (i : ℕ) → i < 16 → isDamaged (view (slotAt i (t .slots))) ≡ false
+use Rattle.calls.specs.Outcome.{Tables}
+use Rattle.calls.specs.Whole.{Asked, whole}
+use Rattle.runs.specs.WholeLaws.{whole-length, whole-state}
+use Rattle.runs.specs.Run.{Event, Ran, SoundUnits, isDamaged, SoundTables}
+use Rattle.runs.specs.Ledger.{Ledger, after, ledgerOf, viewBy, view, toView, ofView, starts, Agrees, Done, doneIn, dones, Singly, finals, KeepsReply, Fits}
+use Rattle.runs.specs.StepLaws.{call-step}
 
 -- ---- what a run shows
 
 -- each open and close of a run writes no more of its reply than its count says
 abbrev pub AllKeep : List Event → Type 0
-AllKeep [] = Unit {0}
+AllKeep [] = Unit
 AllKeep (e ∷ es) = KeepsReply (e .call) (e .answer) (e .reply) × AllKeep es
 
 pub record Sequence (t : Tables) (es : List Event) (n : Tables) : Type 0 where
@@ -55,53 +41,50 @@ pub record Sequence (t : Tables) (es : List Event) (n : Tables) : Type 0 where
 
 -- ---- laws
 
-sound-agrees : (v : View) → isDamaged v ≡ false → v ≡ toView (ofView v)
-sound-agrees vacant e = refl
-sound-agrees (held k) e = refl
-sound-agrees damaged e = let z : _≡_ {A = ℕ} 0 1 = cc in absurd (omega arith)
+sound-agrees : (s : SlotState) (rec : List ℕ) → isDamaged s ≡ false → viewBy s rec ≡ toView (ofView (viewBy s rec))
+sound-agrees Free rec e = refl
+sound-agrees Open rec e = refl
+sound-agrees Unsound rec e = let z : _≡_ {A = ℕ} 0 1 = cc in absurd (omega arith)
 
 start-fits : (t : Tables) → SoundTables t → Fits t (starts (t .slots))
+unfolding view
 start-fits t s =
-    record { units-length = s .units-length; slots-length = s .slots-length; agrees = λ i h. sound-agrees (view (slotAt i (t .slots))) (s .slots-sound i h) }
+    record {
+      units-length = s .units-length;
+      slots-length = s .slots-length;
+      agrees = λ i h. sound-agrees (slotStateOf (slotAt i (t .slots))) (slotAt i (t .slots)) (s .slots-sound i h);
+    }
 
-view-sound : (o : Option Asked) (v : View) → v ≡ toView o → isDamaged v ≡ false
-view-sound none v e = rw e
-view-sound (some k) v e = rw e
+view-sound : (s : SlotState) (rec : List ℕ) (o : Option Asked) → viewBy s rec ≡ toView o → isDamaged s ≡ false
+view-sound Free rec o e = refl
+view-sound Open rec o e = refl
+view-sound Unsound rec none e = let z : _≡_ {A = ℕ} 0 1 = cc in absurd (omega arith)
+view-sound Unsound rec (some k) e = let z : _≡_ {A = ℕ} 0 1 = cc in absurd (omega arith)
 
 singly-append : (us ms ns : List ℕ) (xs ys : List Done) → Singly us xs ms → Singly ms ys ns → Singly us (xs ++ ys) ns
 singly-append us ms ns [] ys p q = subst (λ (x : List ℕ). Singly x ys ns) (sym p) q
 singly-append us ms ns (x ∷ xs) ys p q =
     (p .0, p .1, singly-append (whole us (x .what) (x .sent) (x .clock) .units) ms ns xs ys (p .2) q)
 
--- a whole command leaves sound records
-whole-sound : (units : List ℕ) (k : Asked) (d : List ℕ) (clock : ℕ) → length units ≡ 4096 → SoundUnits units → SoundUnits (whole units k d clock .units)
-unfolding unitState
-whole-sound units k d clock full sound u h = by-cases (eqb (k .unit) u) refl
-  where
-    by-cases : (b : Bool) → eqb (k .unit) u ≡ b → isUnsound (unitStateOf u (unitAt u (whole units k d clock .units))) ≡ false
-    by-cases true e =
-        let q = eqb-true (k .unit) u e in
-        ap isUnsound (subst (λ (v : ℕ). unitStateOf v (unitAt v (whole units k d clock .units)) ≡ unitStateOf v (unitAt v units)) q (whole-state units k d clock full)) ∙ sound u h
-    by-cases false e = ap (λ (r : List ℕ). isUnsound (unitStateOf u r)) (whole-others units k d clock full u (eqb-false (k .unit) u e)) ∙ sound u h
-
+-- whole commands leave sound records
 singly-sound : (xs : List Done) (us ns : List ℕ) → length us ≡ 4096 → SoundUnits us → Singly us xs ns → SoundUnits ns
 singly-sound [] us ns full sound p = subst SoundUnits p sound
 singly-sound (x ∷ xs) us ns full sound p =
     singly-sound xs (whole us (x .what) (x .sent) (x .clock) .units) ns (whole-length us (x .what) (x .sent) (x .clock) full)
-    (whole-sound us (x .what) (x .sent) (x .clock) full sound) (p .2)
+    (λ u h. ap isUnsound (whole-state us (x .what) (x .sent) (x .clock) full u) ∙ sound u h) (p .2)
 
 -- ---- a run, from any tables that fit a ledger
 
-pub record Runs (t : Tables) (ledger : Ledger) (es : List Event) (n : Tables) : Type 0 where
+record Runs (t : Tables) (ledger : Ledger) (es : List Event) (n : Tables) : Type 0 where
   pub fits : Fits n (ledgerOf ledger es)
   pub singly : Singly (t .units) (dones ledger es) (n .units)
   pub counted : length (dones ledger es) ≡ finals es
   pub keeps : AllKeep es
 
-pub runs : (es : List Event) (t : Tables) (ledger : Ledger) (n : Tables) → Fits t ledger → Ran t es n → Runs t ledger es n
+runs : (es : List Event) (t : Tables) (ledger : Ledger) (n : Tables) → Fits t ledger → Ran t es n → Runs t ledger es n
 runs [] t ledger n fit ran = record { fits = subst (λ (x : Tables). Fits x ledger) ran fit; singly = ap (λ (x : Tables). x .units) ran; counted = refl; keeps = tt }
 runs (e ∷ es) t ledger n fit (m, meets, ran) =
-    let s = step t ledger fit (e .call) (e .answer) (e .reply) m meets in
+    let s = call-step t ledger fit (e .call) (e .answer) (e .reply) m meets in
     let r = runs es m (after ledger (e .call) (e .answer)) n (s .fits) ran in
     let here = doneIn ledger (e .call) (e .answer) (e .reply) in
     let rest = dones (after ledger (e .call) (e .answer)) es in
@@ -114,7 +97,11 @@ runs (e ∷ es) t ledger n fit (m, meets, ran) =
 
 -- ---- demand 3: every run from sound tables
 
+pub run-fits : (t : Tables) (es : List Event) (n : Tables) → SoundTables t → Ran t es n → Fits n (ledgerOf (starts (t .slots)) es)
+run-fits t es n sound ran = runs es t (starts (t .slots)) n (start-fits t sound) ran .fits
+
 pub sequence : (t : Tables) (es : List Event) (n : Tables) → SoundTables t → Ran t es n → Sequence t es n
+unfolding view
 sequence t es n sound ran =
     let r = runs es t (starts (t .slots)) n (start-fits t sound) ran in
     let f = r .fits in
@@ -127,7 +114,7 @@ sequence t es n sound ran =
             units-length = f .units-length;
             slots-length = f .slots-length;
             units-sound = singly-sound (dones (starts (t .slots)) es) (t .units) (n .units) (sound .units-length) (sound .units-sound) (r .singly);
-            slots-sound = λ i h. view-sound (ledgerOf (starts (t .slots)) es i) (view (slotAt i (n .slots))) (f .agrees i h);
+            slots-sound = λ i h. view-sound (slotStateOf (slotAt i (n .slots))) (slotAt i (n .slots)) (ledgerOf (starts (t .slots)) es i) (f .agrees i h);
           };
       replies-kept = r .keeps;
     }

@@ -1,136 +1,204 @@
--- Laws of a whole command: it is what an open gives and, where the open parks it, what the close gives.
+-- Laws of a whole command: it is what an open answers that doesn't park it; its cases; and what every one of them has: a final answer, as many
+-- written bytes as its count says, a unit table of the same length, and every other unit's record as it was.
 use mathlib.Core.Path.{_≡_, refl, sym, ap, _∙_}
-use mathlib.Core.Bool.{Bool, true, false, not}
+use mathlib.Core.Bool.{Bool, true, false}
 use mathlib.Core.List.{List, []}
-use Prim.Native.Nat.{ℕ}
+use Prim.Native.Nat.{ℕ, _*_, _<_}
 use native.Mathlib.Omega.{arith}
-use lib.Dec.{eqb, leb}
-use lib.ListN.{length, getD, drop}
-use lib.Seq.{getD-take, getD-drop}
+use lib.Dec.{eqb}
+use lib.ListN.{length}
 use borrow.Author.Tests.{eqb-true, eqb-false}
 use Rattle.choice.specs.Choice.{both, pick}
-use Rattle.choice.specs.ChoiceLaws.{both-true}
-use Rattle.wire.specs.Bytes.{part, number, patch}
+use Rattle.choice.specs.ChoiceLaws.{pick-cases}
+use Rattle.wire.specs.Bytes.{patch}
+use Rattle.wire.specs.PatchLaws.{record-here, record-other, record-length}
+use Rattle.model.specs.Protocol.{protocolOut, setAttributes}
 use Rattle.model.specs.Codes.{dataOut}
-use Rattle.model.specs.CodeLaws.{legal-some}
 use Rattle.model.specs.Refusal.{refusal}
+use Rattle.model.specs.Totals.{totalOf}
+use Rattle.model.specs.Answers.{isFinal, countIn}
 use Rattle.model.specs.declared.Answer.the-variants.{Good, Run}
-use Rattle.slots.specs.Slot.{slotAt, slotStateOf, isOpen, slotCommand, commandLength}
-use Rattle.slots.specs.SlotLaws.{open-sound}
-use Rattle.slots.specs.declared.SlotState.the-variants.{Open}
+use Rattle.units.specs.declared.UnitState.the-variants.{Used}
+use Rattle.units.specs.Unit.{unitAt, keeperOf, keySetOf, unitState, unitStateOf}
+use Rattle.units.specs.UnitLaws.{unit-length, keeper-small, keeper-used}
 use Rattle.judge.specs.Command.{codeOf, pageOf}
-use Rattle.judge.specs.Judgement.{first, openReason}
-use Rattle.judge.specs.Order.{orElse}
-use Rattle.pages.specs.In.{sizeOf, countOf}
-use Rattle.calls.specs.Lent.{Lent, rightlyLent}
-use Rattle.calls.specs.Open.{rightToken, isReplied, passedPlan, judgedPlan, openPlan, applyOpen, openOut}
-use Rattle.calls.specs.Close.{listTests, closeReason, endPlan, rejudgedPlan, heldPlan, closePlan, applyClose, closeOut}
-use Rattle.calls.specs.CloseLaws.{close-order, close-early, is-open-state}
-use Rattle.runs.specs.Cases.{Closes, slotReason}
-use Rattle.runs.specs.Whole.{Asked, whole-of, replied, obeyed, passedWhole, whole, heldBy, parks, openedWhole, closedWhole}
-use Rattle.calls.specs.declared.opening.Opening.the-variants.{Say, Reply}
-use Rattle.calls.specs.declared.closing.Closing.the-variants.{End, Obey}
+use Rattle.judge.specs.Seen.{seen}
+use Rattle.judge.specs.JudgementLaws.{open-passed}
+use Rattle.pages.specs.Out.{newMethod, newTag, wrongList}
+use Rattle.pages.specs.OutLaws.{right-method}
+use Rattle.pages.specs.Effects.{attributesSet, newKeys}
+use Rattle.pages.specs.EffectLaws.{attributes-length, attributes-used, new-length, new-used}
+use Rattle.calls.specs.Whole.{Asked, nothing, attributes, keySet, Local, local, isReplied, replyTo, madeBy, passed, judged, laid, Whole, stored, wholeReason, whole}
+use Rattle.calls.specs.WholeLaws.{out-code, same-reason, passed-same, close-early, close-none, list-passed, judged-passed, judged-refused}
+use Rattle.calls.specs.Open.{reasonAtOpen, parks, answeredAtOpen}
 
--- nothing written at the front
-patch-none : (l : List ℕ) → patch l 0 [] ≡ l
-unfolding patch
-patch-none l = refl
+-- ---- an open that doesn't park answers the whole command, whatever data would have come
 
--- a data-out code that isn't B5h, and a code that carries no data out
-out-code : (x : ℕ) → dataOut x ≡ false → eqb x 0xB5 ≡ false
-unfolding dataOut
-out-code x h = by-cases (eqb x 0xB5) refl
-  where
-    by-cases : (b : Bool) → eqb x 0xB5 ≡ b → b ≡ false
-    by-cases true e = rw (eqb-true x 0xB5 e) at h
-    by-cases false e = refl
+module _ (units : List ℕ) (k : Asked) (d : List ℕ) (clock : ℕ) where
+  abbrev r : ℕ
+  r = reasonAtOpen units k clock
 
--- ---- the reason: the list is judged only for B5h
-
-else-none : (r : ℕ) → orElse r 0 ≡ r
-else-none r = by-cases (eqb r 0) refl
-  where
-    by-cases : (b : Bool) → eqb r 0 ≡ b → pick b 0 r ≡ r
-    by-cases true e = sym (eqb-true r 0 e)
-    by-cases false e = refl
-
-module _ (units : List ℕ) (u : ℕ) (c token d : List ℕ) (clock : ℕ) where
-  list-none : eqb (codeOf c) 0xB5 ≡ false → first (listTests c d) ≡ 0
-  unfolding listTests
-  list-none e = rw e
-
-  pub same-reason : eqb (codeOf c) 0xB5 ≡ false → closeReason units u c token d clock ≡ openReason units u c token clock
-  same-reason e =
-      sym (close-order units u c token d clock) ∙ ap (orElse (openReason units u c token clock)) (list-none e) ∙ else-none (openReason units u c token clock)
-
--- ---- an open that doesn't park gives the whole command, whatever data would have come
-
-module _ (l : Lent) (k : Asked) (d : List ℕ) (clock : ℕ) (lengths : rightlyLent l ≡ true) (sized : rightToken (length (k .token)) ≡ true) where
-  r : ℕ
-  r = openReason (l .units) (k .unit) (k .command) (k .token) clock
-
-  refused-whole : eqb r 0 ≡ false → openOut l (k .unit) (k .command) (k .token) clock ≡ openedWhole l (whole (l .units) k d clock)
-  unfolding openOut openPlan judgedPlan whole r
-  refused-whole e =
-      let n = eqb-false r 0 e in
-      rw (lengths, sized, sym (close-early (l .units) (k .unit) (k .command) (k .token) d clock r refl n), e) (rw patch-none)
-
-  passed-whole : eqb r 0 ≡ true → dataOut (codeOf (k .command)) ≡ false → openOut l (k .unit) (k .command) (k .token) clock ≡ openedWhole l (whole (l .units) k d clock)
-  unfolding openOut openPlan judgedPlan passedPlan whole passedWhole r
-  passed-whole e o =
+  answered-whole : (b : Bool) → eqb (reasonAtOpen units k clock) 0 ≡ b → both b (dataOut (codeOf (k .command))) ≡ false
+      → answeredAtOpen units k clock ≡ whole units k d clock
+  unfolding whole
+  answered-whole true e o =
+      let s = seen units (k .unit) in
       let n = out-code (codeOf (k .command)) o in
-      rw (lengths, sized, same-reason (l .units) (k .unit) (k .command) (k .token) d clock n, e, o, n) (by-page (isReplied (k .command)))
+      let z = eqb-true (reasonAtOpen units k clock) 0 e in
+      let same = same-reason s (k .command) (k .token) d clock n in
+      ap (stored units (k .unit)) (judged-passed s (k .command) [] r z ∙ passed-same s (k .command) (k .token) [] clock n d ∙ sym (judged-passed s (k .command) d (wholeReason units k d clock) (same ∙ z)))
+  answered-whole false e o =
+      let s = seen units (k .unit) in
+      let n = eqb-false (reasonAtOpen units k clock) 0 e in
+      let same = close-early s (k .command) (k .token) d clock r refl n in
+      ap (stored units (k .unit)) (judged-refused s (k .command) [] r n ∙ ap (λ (x : ℕ). local (refusal x) [] nothing) same ∙ sym (judged-refused s (k .command) d (wholeReason units k d clock) (λ z. n (same ∙ z))))
+
+  pub open-whole : parks units k clock ≡ false → answeredAtOpen units k clock ≡ whole units k d clock
+  open-whole p = answered-whole (eqb (reasonAtOpen units k clock) 0) refl p
+
+-- ---- the cases
+
+module _ (units : List ℕ) (k : Asked) (d : List ℕ) (clock : ℕ) where
+  pub whole-cases : (P : Whole → Type 0)
+      → ((wholeReason units k d clock ≡ 0 → ⊥) → P (stored units (k .unit) (local (refusal (wholeReason units k d clock)) [] nothing)))
+      → (wholeReason units k d clock ≡ 0 → eqb (codeOf (k .command)) protocolOut ≡ true
+      → P (stored units (k .unit) (local (Good 0) [] (madeBy (seen units (k .unit)) (pageOf (k .command)) d))))
+      → (wholeReason units k d clock ≡ 0 → eqb (codeOf (k .command)) protocolOut ≡ false → isReplied (k .command) ≡ true
+      → P (stored units (k .unit) (local (Good (length (replyTo (seen units (k .unit)) (k .command)))) (replyTo (seen units (k .unit)) (k .command)) nothing)))
+      → (wholeReason units k d clock ≡ 0 → eqb (codeOf (k .command)) protocolOut ≡ false → isReplied (k .command) ≡ false
+      → P (stored units (k .unit) (local Run [] nothing)))
+      → P (whole units k d clock)
+  unfolding whole judged passed
+  whole-cases P refused obeys replies runs =
+      let Q : Local → Type 0 = λ x. P (stored units (k .unit) x) in
+      pick-cases Q (eqb (wholeReason units k d clock) 0) _ _
+      (λ e. let z = eqb-true (wholeReason units k d clock) 0 e in
+      pick-cases Q (eqb (codeOf (k .command)) protocolOut) _ _ (obeys z) (λ f. pick-cases Q (isReplied (k .command)) _ _ (replies z f) (runs z f)))
+      (λ e. refused (eqb-false (wholeReason units k d clock) 0 e))
+
+  pub whole-final : isFinal (whole units k d clock .answer) ≡ true
+  unfolding refusal
+  whole-final = whole-cases (λ (w : Whole). isFinal (w .answer) ≡ true) (λ n. refl) (λ z t. refl) (λ z f r. refl) (λ z f r. refl)
+
+  pub whole-written : length (whole units k d clock .written) ≡ countIn (whole units k d clock .answer)
+  unfolding refusal
+  whole-written =
+      whole-cases (λ (w : Whole). length (w .written) ≡ countIn (w .answer)) (λ n. refl) (λ z t. refl) (λ z f r. refl) (λ z f r. refl)
+
+-- ---- what an Out page leaves of the unit table
+
+-- what is known where one is obeyed
+pub record Obeys (units : List ℕ) (u page : ℕ) (d : List ℕ) : Type 0 where
+  pub full : length units ≡ 4096
+  pub small : u < 8
+  pub used : unitState units u ≡ Used
+  pub total : length d ≡ totalOf page
+  pub right : wrongList page d ≡ false
+
+pub obeys : (units : List ℕ) (k : Asked) (d : List ℕ) (clock : ℕ) → length units ≡ 4096 → wholeReason units k d clock ≡ 0
+    → eqb (codeOf (k .command)) protocolOut ≡ true → Obeys units (k .unit) (pageOf (k .command)) d
+obeys units k d clock full z t =
+    let s = seen units (k .unit) in
+    let p = open-passed s (k .command) (k .token) clock (close-none s (k .command) (k .token) d clock z .0) in
+    let q = list-passed s (k .command) (k .token) d clock z t in
+    record { full = full; small = p .small; used = p .used; total = q .0; right = q .1 }
+
+module _ (units : List ℕ) (u page : ℕ) (d : List ℕ) (o : Obeys units u page d) where
+  -- the place that is written, and what is written there: the unit's own, or its keeper's
+  pub record Written (new : List ℕ) : Type 0 where
+    pub place : ℕ
+    pub bytes : List ℕ
+    pub at : place < 8
+    pub long : length bytes ≡ 512
+    pub put : new ≡ patch units (place * 512) bytes
+    pub sound : unitStateOf place (unitAt place units) ≡ Used
+    pub again : unitStateOf place bytes ≡ Used
+    pub near : (v : ℕ) → (u ≡ v → ⊥) → (keeperOf units u ≡ v → ⊥) → place ≡ v → ⊥
+
+  written-by : (b : Bool) → eqb page setAttributes ≡ b
+      → Written (laid units u (pick b (attributes (attributesSet (newMethod d) (newTag d) (unitAt u units))) (keySet (newKeys page d (keySetOf units u)))))
+  unfolding unitState keySetOf
+  written-by true e =
+      let full = unit-length u units (o .full) (o .small) in
+      let m = right-method page d (eqb-true page setAttributes e) (o .right) in
+      record {
+        place = u;
+        bytes = attributesSet (newMethod d) (newTag d) (unitAt u units);
+        at = o .small;
+        long = attributes-length (newMethod d) (newTag d) (unitAt u units) full;
+        put = refl;
+        sound = o .used;
+        again = attributes-used (newMethod d) (newTag d) (unitAt u units) full u m (o .used);
+        near = λ v n m e. n e;
+      }
+  written-by false e =
+      let h = keeper-small units u (o .small) in
+      let full = unit-length (keeperOf units u) units (o .full) h in
+      let used = keeper-used units u (o .used) in
+      record {
+        place = keeperOf units u;
+        bytes = newKeys page d (unitAt (keeperOf units u) units);
+        at = h;
+        long = new-length page d (unitAt (keeperOf units u) units) (o .right) full;
+        put = refl;
+        sound = used;
+        again = new-used page d (unitAt (keeperOf units u) units) (o .right) full (keeperOf units u) used;
+        near = λ v n m e. m e;
+      }
+
+  pub written : Written (laid units u (madeBy (seen units u) page d))
+  unfolding madeBy
+  written = written-by (eqb page setAttributes) refl
+
+  w : Written (laid units u (madeBy (seen units u) page d))
+  w = written
+
+  pub laid-length : length (laid units u (madeBy (seen units u) page d)) ≡ 4096
+  laid-length =
+      let h = w .at in
+      let full = o .full in
+      ap length (w .put) ∙ record-length units (w .place) (w .bytes) (w .long) (omega arith) ∙ full
+
+  -- no byte of another unit's record
+  pub laid-others : (v : ℕ) → (u ≡ v → ⊥) → (keeperOf units u ≡ v → ⊥) → unitAt v (laid units u (madeBy (seen units u) page d)) ≡ unitAt v units
+  laid-others v n m =
+      let h = w .at in
+      let full = o .full in
+      ap (unitAt v) (w .put) ∙ record-other units (w .place) (w .bytes) (w .long) (omega arith) v (w .near v n m)
+
+  -- every unit is used or unused, sound or unsound, as it was
+  pub laid-state : (v : ℕ) → unitState (laid units u (madeBy (seen units u) page d)) v ≡ unitState units v
+  unfolding unitState
+  laid-state v = by-place (eqb (w .place) v) refl
     where
-      count : ℕ
-      count = countOf (sizeOf (pageOf (k .command))) (number 4 6 (k .command))
+      by-place : (b : Bool) → eqb (w .place) v ≡ b → unitStateOf v (unitAt v (laid units u (madeBy (seen units u) page d))) ≡ unitStateOf v (unitAt v units)
+      by-place true e =
+          let h = w .at in
+          let full = o .full in
+          let q = eqb-true (w .place) v e in
+          let here = ap (unitAt (w .place)) (w .put) ∙ record-here units (w .place) (w .bytes) (w .long) (omega arith) in
+          rw (← q) (ap (unitStateOf (w .place)) here ∙ w .again ∙ sym (w .sound))
+      by-place false e =
+          let h = w .at in
+          let full = o .full in
+          ap (unitStateOf v) (ap (unitAt v) (w .put) ∙ record-other units (w .place) (w .bytes) (w .long) (omega arith) v (eqb-false (w .place) v e))
 
-      by-page : (b : Bool) → applyOpen l (k .unit) (k .command) (k .token) (pick b (Reply (pageOf (k .command)) count) (Say Run))
-          ≡ openedWhole l (pick b (whole-of (Good count) (l .units) (replied (l .units) (k .unit) (k .command))) (whole-of Run (l .units) []))
-      by-page true = refl
-      by-page false = rw patch-none
+-- ---- and so of every whole command
 
-  pub open-whole : parks (l .units) k clock ≡ false → openOut l (k .unit) (k .command) (k .token) clock ≡ openedWhole l (whole (l .units) k d clock)
-  unfolding r
-  open-whole p = by-cases (eqb r 0) refl p
-    where
-      by-cases : (b : Bool) → eqb r 0 ≡ b → both b (dataOut (codeOf (k .command))) ≡ false
-          → openOut l (k .unit) (k .command) (k .token) clock ≡ openedWhole l (whole (l .units) k d clock)
-      by-cases true e o = passed-whole e o
-      by-cases false e o = refused-whole e
+module _ (units : List ℕ) (k : Asked) (d : List ℕ) (clock : ℕ) (full : length units ≡ 4096) where
+  pub whole-length : length (whole units k d clock .units) ≡ 4096
+  whole-length =
+      whole-cases units k d clock (λ (w : Whole). length (w .units) ≡ 4096) (λ n. full)
+      (λ z t. laid-length units (k .unit) (pageOf (k .command)) d (obeys units k d clock full z t))
+      (λ z f r. full) (λ z f r. full)
 
--- ---- a close of an open slot gives the whole command that the slot holds
+  pub whole-others : (v : ℕ) → (k .unit ≡ v → ⊥) → (keeperOf units (k .unit) ≡ v → ⊥) → unitAt v (whole units k d clock .units) ≡ unitAt v units
+  whole-others v n m =
+      whole-cases units k d clock (λ (w : Whole). unitAt v (w .units) ≡ unitAt v units) (λ e. refl)
+      (λ z t. laid-others units (k .unit) (pageOf (k .command)) d (obeys units k d clock full z t) v n m)
+      (λ z f r. refl) (λ z f r. refl)
 
--- a command that a slot holds carries data out
-pub held-code : (rec : List ℕ) → slotStateOf rec ≡ Open → dataOut (codeOf (slotCommand rec)) ≡ true
-unfolding slotCommand
-held-code rec e =
-    let s = open-sound rec e in
-    let n = legal-some (getD rec 8 0) (commandLength rec) (s .legal) in
-    let q : getD (part 8 (commandLength rec) rec) 0 0 ≡ getD rec 8 0 = getD-take (commandLength rec) (drop 8 rec) 0 0 (omega arith) ∙ getD-drop 8 rec 0 0 in
-    ap dataOut q ∙ s .out
-
-not-replied : (c : List ℕ) → dataOut (codeOf c) ≡ true → isReplied c ≡ false
-unfolding isReplied dataOut
-not-replied c h = by-cases (eqb (codeOf c) 0xA2) refl
-  where
-    by-cases : (b : Bool) → eqb (codeOf c) 0xA2 ≡ b → both b (not (eqb (pageOf c) 0x0012)) ≡ false
-    by-cases true e = absurd (let z : false ≡ true = rw (eqb-true (codeOf c) 0xA2 e) at h in let q : _≡_ {A = ℕ} 0 1 = cc in omega arith)
-    by-cases false e = refl
-
-pub close-whole : (l : Lent) (s : ℕ) (d : List ℕ) (clock : ℕ) → Closes l s → closeOut l s d clock ≡ closedWhole l s (whole (l .units) (heldBy (slotAt s (l .slots))) d clock)
-unfolding closeOut closePlan heldPlan rejudgedPlan endPlan whole passedWhole
-close-whole l s d clock o =
-    let rec = slotAt s (l .slots) in
-    let open-state = is-open-state (slotStateOf rec) (both-true (leb s 15) (isOpen (slotStateOf rec)) (o .held) .1) in
-    let n = not-replied (slotCommand rec) (held-code rec open-state) in
-    rw (o .lengths, o .held, n) (by-reason (eqb (slotReason l s d clock) 0) (eqb (codeOf (slotCommand rec)) 0xB5))
-  where
-    k : Asked
-    k = heldBy (slotAt s (l .slots))
-
-    by-reason : (b x : Bool)
-        → applyClose l s d (pick b (pick x (Obey (record { 0 = k .unit }) (pageOf (k .command))) (End Run)) (End (refusal (slotReason l s d clock))))
-        ≡ closedWhole l s (pick b (pick x (whole-of (Good 0) (obeyed (l .units) (k .unit) (k .command) d) []) (whole-of Run (l .units) [])) (whole-of (refusal (slotReason l s d clock)) (l .units) []))
-    by-reason true true = rw patch-none
-    by-reason true false = rw patch-none
-    by-reason false x = rw patch-none
+  pub whole-state : (v : ℕ) → unitState (whole units k d clock .units) v ≡ unitState units v
+  whole-state v =
+      whole-cases units k d clock (λ (w : Whole). unitState (w .units) v ≡ unitState units v) (λ n. refl)
+      (λ z t. laid-state units (k .unit) (pageOf (k .command)) d (obeys units k d clock full z t) v) (λ z f r. refl) (λ z f r. refl)

@@ -1,11 +1,11 @@
--- The blank record: its check, computed; and that it is the only sound record of zeros.
+-- The blank record: its check, computed; that it is the only sound record of zeros; and a list put over zeros.
 use mathlib.Core.Path.{_≡_, refl, _∙_, sym, ap, ap₂}
 use mathlib.Core.Bool.{Bool, true}
-use mathlib.Core.List.{List, [], _∷_, _++_}
-use Prim.Native.Nat.{ℕ, _+_, _≤_}
+use mathlib.Core.List.{List, [], _∷_, _++_, append-assoc}
+use Prim.Native.Nat.{ℕ, _+_, _-_, _≤_}
 use native.Mathlib.Omega.{arith}
-use lib.ListN.{length, take, drop, replicate, length-replicate, length-drop, take-append-drop}
-use lib.Seq.{take-all}
+use lib.ListN.{length, take, drop, replicate, length-append, length-replicate, length-drop, take-append-drop, replicate-append-replicate}
+use lib.Seq.{take-all, drop-at}
 use Rattle.choice.specs.Choice.{both}
 use Rattle.choice.specs.ChoiceLaws.{both-true}
 use Rattle.wire.specs.Bytes.{same, part, zeros, patch}
@@ -98,3 +98,25 @@ blank-where l c t full ec et = ap (λ (x : Bool). both x (zeros 492 0 l)) (sym e
 pub blank-made : (l : List ℕ) → l ≡ replicate 512 0 → patch l 492 blankCheck ≡ blankRecord
 unfolding blankRecord seal blank
 blank-made l e = rw (e, blank-check)
+
+-- ---- a list put over zeros
+
+drop-zeros : (n m k : ℕ) → n + m ≡ k → drop n (replicate k 0) ≡ replicate {A = ℕ} m 0
+drop-zeros n m k e =
+    ap (λ (x : ℕ). drop n (replicate {A = ℕ} x 0)) (sym e) ∙ ap (drop {A = ℕ} n) (sym (replicate-append-replicate {A = ℕ} n m 0))
+    ∙ drop-at {A = ℕ} (replicate n 0) (replicate m 0) n (length-replicate {A = ℕ} n 0)
+
+blank-filled : (x : List ℕ) → length x ≤ 512 → patch blank 0 x ≡ x ++ replicate (512 - length x) 0
+unfolding blank patch
+blank-filled x h = ap (λ (l : List ℕ). x ++ l) (drop-zeros (length x) (512 - length x) 512 (omega arith))
+
+-- zeros behind it make no difference
+pub blank-longer : (x : List ℕ) (n : ℕ) → length x + n ≤ 512 → patch blank 0 (x ++ replicate n 0) ≡ patch blank 0 x
+blank-longer x n h =
+    let long : length (x ++ replicate n 0) ≡ length x + n =
+    length-append x (replicate n 0) ∙ ap (λ (k : ℕ). length x + k) (length-replicate {A = ℕ} n 0) in
+    let left : n + (512 - length (x ++ replicate n 0)) ≡ 512 - length x = omega arith in
+    blank-filled (x ++ replicate n 0) (omega arith)
+    ∙ append-assoc x (replicate n 0) (replicate (512 - length (x ++ replicate n 0)) 0)
+    ∙ ap (λ (l : List ℕ). x ++ l) (replicate-append-replicate n (512 - length (x ++ replicate n 0)) 0 ∙ ap (λ (k : ℕ). replicate k 0) left)
+    ∙ sym (blank-filled x (omega arith))

@@ -40,7 +40,8 @@ record Lowest (n i : ℕ) (slots : List ℕ) (s : ℕ) : Type 0 where
   pub before : (j : ℕ) → i ≤ j → j < s → isFree (slotStateOf (slotAt j slots)) ≡ false
 
 -- the first slot is found, or the search goes on behind it
-first-or : (b : Bool) (i : ℕ) (f : Found) (s : SlotNo) → pick b (At (record { 0 = i })) f ≡ At s → ((b ≡ true) × (s .0 ≡ i)) ⊎ ((b ≡ false) × (f ≡ At s))
+first-or : (b : Bool) (i : ℕ) (f : Found) (s : SlotNo) → pick b (At (record { 0 = i })) f ≡ At s
+    → ((b ≡ true) × (s .0 ≡ i)) ⊎ ((b ≡ false) × (f ≡ At s))
 first-or true i f s e = inl (refl, let h : s ≡ record { 0 = i } = cc in ap (λ (x : SlotNo). x .0) h)
 first-or false i f s e = inr (refl, e)
 
@@ -53,7 +54,8 @@ first-none false s f e = (refl, e)
 behind : (i : ℕ) (slots : List ℕ) (P : ℕ → Type 0) → isFree (slotStateOf (slotAt i slots)) ≡ false
     → ((j : ℕ) → i + 1 ≤ j → P j → isFree (slotStateOf (slotAt j slots)) ≡ false)
     → (j : ℕ) → i ≤ j → P j → isFree (slotStateOf (slotAt j slots)) ≡ false
-behind i slots P b f j h k = ⊎-elim (λ e. ap (λ (x : ℕ). isFree (slotStateOf (slotAt x slots))) (sym e) ∙ b) (λ g. f j (omega arith) k) (eq-or-lt-of-le h)
+behind i slots P b f j h k =
+    ⊎-elim (λ e. ap (λ (x : ℕ). isFree (slotStateOf (slotAt x slots))) (sym e) ∙ b) (λ g. f j (omega arith) k) (eq-or-lt-of-le h)
 
 found-from : (n i : ℕ) (slots : List ℕ) (s : SlotNo) → freeFrom n i slots ≡ At s → Lowest n i slots (s .0)
 unfolding freeFrom
@@ -65,12 +67,24 @@ found-from (suc n) i slots s e =
     here : (isFree (slotStateOf (slotAt i slots)) ≡ true) × (s .0 ≡ i) → Lowest (suc n) i slots (s .0)
     here p =
         let e : s .0 ≡ i = p .1 in
-        record { from = omega arith; below = omega arith; hit = ap (λ (x : ℕ). isFree (slotStateOf (slotAt x slots))) e ∙ p .0; before = λ j h k. absurd (omega arith) }
+        record {
+          from = omega arith;
+          below = omega arith;
+          hit = ap (λ (x : ℕ). isFree (slotStateOf (slotAt x slots))) e ∙ p .0;
+          before = λ j h k. absurd (omega arith);
+        }
 
     there : isFree (slotStateOf (slotAt i slots)) ≡ false → Lowest n (i + 1) slots (s .0) → Lowest (suc n) i slots (s .0)
-    there b w = record { from = omega arith; below = omega arith; hit = w .hit; before = behind i slots (λ (j : ℕ). j < s .0) b (w .before) }
+    there b w =
+        record {
+          from = omega arith;
+          below = omega arith;
+          hit = w .hit;
+          before = behind i slots (λ (j : ℕ). j < s .0) b (w .before);
+        }
 
-none-from : (n i : ℕ) (slots : List ℕ) → freeFrom n i slots ≡ Nothing → (j : ℕ) → i ≤ j → j < i + n → isFree (slotStateOf (slotAt j slots)) ≡ false
+none-from : (n i : ℕ) (slots : List ℕ) → freeFrom n i slots ≡ Nothing → (j : ℕ) → i ≤ j → j < i + n
+    → isFree (slotStateOf (slotAt j slots)) ≡ false
 unfolding freeFrom
 none-from zero i slots e j h k = absurd (omega arith)
 none-from (suc n) i slots e j h k =
@@ -79,7 +93,8 @@ none-from (suc n) i slots e j h k =
 
 -- the slot found is free, and none below it is
 pub lowest : (slots : List ℕ) (s : SlotNo) → lowestFree slots ≡ At s
-    → (s .0 < 16) × (isFree (slotStateOf (slotAt (s .0) slots)) ≡ true) × ((j : ℕ) → j < s .0 → isFree (slotStateOf (slotAt j slots)) ≡ false)
+    → (s .0 < 16) × (isFree (slotStateOf (slotAt (s .0) slots)) ≡ true)
+    × ((j : ℕ) → j < s .0 → isFree (slotStateOf (slotAt j slots)) ≡ false)
 unfolding lowestFree
 lowest slots s e = let w = found-from 16 0 slots s e in (omega (arith, w .below), w .hit, λ j h. w .before j (omega arith) h)
 

@@ -32,12 +32,16 @@ slotCommand l = part 8 (commandLength l) l
 unfoldable pub slotToken : List ℕ → List ℕ
 slotToken l = part 108 (tokenLength l) l
 
+-- a token of 16 to 64 bytes
+unfoldable pub rightToken : ℕ → Bool
+rightToken n = both (leb 16 n) (leb n 64)
+
 -- an open slot: state 1, unit 0-7, a token of 16 to 64 bytes, a data-out command of legal length, zeros past their lengths, unnamed zeros
 unfoldable pub openShape : List ℕ → Bool
 openShape l =
     both (eqb (stateNumber l) 1)
     (both (leb (slotUnit l) 7)
-    (both (both (leb 16 (tokenLength l)) (leb (tokenLength l) 64))
+    (both (rightToken (tokenLength l))
     (both (both (dataOut (getD l 8 0)) (legalLen (getD l 8 0) (commandLength l)))
     (both (zeros (100 - commandLength l) (8 + commandLength l) l)
     (both (zeros (64 - tokenLength l) (108 + tokenLength l) l)

@@ -4,18 +4,22 @@ use mathlib.Core.Path.{_≡_, refl, _∙_, sym, ap}
 use mathlib.Core.Bool.{Bool, true, false}
 use mathlib.Core.List.{List}
 use Prim.Native.Nat.{ℕ, _+_, _-_, _≤_}
-use lib.ListN.{length, replicate, getD}
+use native.Mathlib.Omega.{arith}
+use lib.Dec.{leb}
+use lib.ListN.{length, replicate, getD, length-take, length-drop}
 use borrow.Author.Tests.{eqb-true, leb-true}
-use Rattle.choice.specs.Choice.{both, pick}
+use Rattle.choice.specs.Choice.{pick}
 use Rattle.choice.specs.ChoiceLaws.{both-true}
 use Rattle.wire.specs.Bytes.{same, zeros, patch}
 use Rattle.wire.specs.SameLaws.{same-true, same-refl, same-is}
 use Rattle.seal.specs.Seal.{checked, seal, blank, blankRecord}
 use Rattle.seal.specs.BlankLaws.{blank-sound, record-zeros, record-checked}
 use Rattle.model.specs.Codes.{dataOut, legalLen}
+use Rattle.model.specs.CodeLaws.{legal-small}
 use Rattle.slots.specs.declared.SlotState.{SlotState}
 use Rattle.slots.specs.declared.SlotState.the-variants.{Free, Open, Unsound}
-use Rattle.slots.specs.Slot.{stateNumber, slotUnit, commandLength, tokenLength, openShape, slotStateOf, openHead, openRecord, isFree}
+use Rattle.slots.specs.Slot.{stateNumber, slotUnit, commandLength, tokenLength, slotCommand, slotToken, rightToken}
+use Rattle.slots.specs.Slot.{openShape, slotStateOf, openHead, openRecord, isFree, isOpen}
 
 -- the choices of `slotStateOf`, over the three tests
 abbrev stateBy : Bool → Bool → Bool → SlotState
@@ -50,7 +54,8 @@ not-zeros : (l : List ℕ) → length l ≡ 512 → same l blankRecord ≡ false
 not-zeros l full b k false e = refl
 not-zeros l full b k true e = sym (same-refl l) ∙ ap (same l) (blank-sound l full k e) ∙ b
 
-pub checked-state : (l : List ℕ) → length l ≡ 512 → same l blankRecord ≡ false → checked l ≡ true → slotStateOf l ≡ pick (openShape l) Open Unsound
+pub checked-state : (l : List ℕ) → length l ≡ 512 → same l blankRecord ≡ false → checked l ≡ true
+    → slotStateOf l ≡ pick (openShape l) Open Unsound
 unfolding slotStateOf
 checked-state l full b k = rw (k, not-zeros l full b k (zeros 492 0 l) refl)
 
@@ -59,6 +64,10 @@ unfolding slotStateOf
 unchecked-state l k = rw k
 
 -- ---- what an open slot holds
+
+pub token-is : (n : ℕ) → rightToken n ≡ true → (16 ≤ n) × (n ≤ 64)
+unfolding rightToken
+token-is n e = let p = both-true (leb 16 n) (leb n 64) e in (leb-true 16 n (p .0), leb-true n 64 (p .1))
 
 pub record Sound (l : List ℕ) : Type 0 where
   pub check : checked l ≡ true
@@ -88,20 +97,41 @@ open-sound l e =
     let p4 = both-true _ _ (p3 .1) in
     let p5 = both-true _ _ (p4 .1) in
     let p6 = both-true _ _ (p5 .1) in
-    let token = both-true _ _ (p3 .0) in
+    let token = token-is _ (p3 .0) in
     let command = both-true _ _ (p4 .0) in
     record {
       check = p .0;
       state = eqb-true _ _ (p1 .0);
       unit = leb-true _ _ (p2 .0);
-      least = leb-true _ _ (token .0);
-      most = leb-true _ _ (token .1);
+      least = token .0;
+      most = token .1;
       out = command .0;
       legal = command .1;
       past-command = p5 .0;
       past-token = p6 .0;
       unnamed = p6 .1;
     }
+
+-- the command and the token of an open slot end within its record
+pub open-fits : (l : List ℕ) → slotStateOf l ≡ Open → (8 + commandLength l ≤ 512) × (108 + tokenLength l ≤ 512)
+open-fits l e =
+    let s = open-sound l e in
+    let n = legal-small _ (commandLength l) (s .legal) in
+    let m : tokenLength l ≤ 64 = s .most in
+    (omega arith, omega arith)
+
+-- and are as long as it says
+pub open-sizes : (l : List ℕ) → length l ≡ 512 → slotStateOf l ≡ Open
+    → (length (slotCommand l) ≡ commandLength l) × (length (slotToken l) ≡ tokenLength l)
+unfolding slotCommand slotToken
+open-sizes l full e =
+    let f = open-fits l e in
+    (simp (length-take, length-drop) (omega arith), simp (length-take, length-drop) (omega arith))
+
+pub is-open-state : (s : SlotState) → isOpen s ≡ true → s ≡ Open
+is-open-state Free e = let z : _≡_ {A = ℕ} 0 1 = cc in absurd (omega arith)
+is-open-state Open e = refl
+is-open-state Unsound e = let z : _≡_ {A = ℕ} 0 1 = cc in absurd (omega arith)
 
 -- ---- the writer's steps, one after the other: the head, zeros, three patches, the check
 

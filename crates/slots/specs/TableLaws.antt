@@ -1,15 +1,12 @@
 -- Laws of the table: a slot that is lent; a slot that is written or freed, where the others stay as they were; all sixteen freed.
 use mathlib.Core.Path.{_≡_, refl, _∙_, sym, ap}
-use mathlib.Core.Logic.{_⊎_, inl, inr, ⊎-elim}
-use mathlib.Core.Bool.{Bool, true, false}
+use mathlib.Core.Logic.{⊎-elim}
 use mathlib.Core.List.{List}
 use Prim.Native.Nat.{ℕ, zero, suc, _+_, _*_, _-_, _≤_, _<_}
 use native.Mathlib.Omega.{arith}
 use native.Mathlib.Nat.{eq-or-lt-of-le}
-use lib.Dec.{leb}
 use lib.ListN.{length, take, drop, length-take, length-drop}
-use borrow.Author.Tests.{leb-true, leb-false}
-use Rattle.wire.specs.Bytes.{part, patch}
+use Rattle.wire.specs.Bytes.{patch}
 use Rattle.wire.specs.PatchLaws.{record-here, record-other, record-length as kept-length, lent-part}
 use Rattle.seal.specs.Seal.{blankRecord}
 use Rattle.seal.specs.BlankLaws.{record-length}
@@ -65,14 +62,16 @@ from-length zero i slots full h = full
 from-length (suc n) i slots full h = from-length n (i + 1) (freed i slots) (freed-length i slots full (omega arith)) (omega arith)
 
 -- what is below i stays as it was
-from-below : (n i : ℕ) (slots : List ℕ) → length slots ≡ 8192 → i + n ≤ 16 → (j : ℕ) → j < i → slotAt j (freedFrom n i slots) ≡ slotAt j slots
+from-below : (n i : ℕ) (slots : List ℕ) → length slots ≡ 8192 → i + n ≤ 16 → (j : ℕ) → j < i
+    → slotAt j (freedFrom n i slots) ≡ slotAt j slots
 unfolding freedFrom
 from-below zero i slots full h j k = refl
 from-below (suc n) i slots full h j k =
     from-below n (i + 1) (freed i slots) (freed-length i slots full (omega arith)) (omega arith) j (omega arith)
     ∙ freed-other i slots full (omega arith) j (λ e. omega arith)
 
-from-freed : (n i : ℕ) (slots : List ℕ) → length slots ≡ 8192 → i + n ≤ 16 → (j : ℕ) → i ≤ j → j < i + n → slotAt j (freedFrom n i slots) ≡ blankRecord
+from-freed : (n i : ℕ) (slots : List ℕ) → length slots ≡ 8192 → i + n ≤ 16 → (j : ℕ) → i ≤ j → j < i + n
+    → slotAt j (freedFrom n i slots) ≡ blankRecord
 unfolding freedFrom
 from-freed zero i slots full h j k l = absurd (omega arith)
 from-freed (suc n) i slots full h j k l =

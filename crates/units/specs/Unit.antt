@@ -1,11 +1,12 @@
--- Unit records (document 01, "Records of 512 bytes", Unit): fields, soundness, a record as it is built, and the unit table.
-use mathlib.Core.Bool.{Bool, true, false}
+-- Unit records (document 01, "Records of 512 bytes", Unit): fields, soundness, and the unit table with the key set of each unit.
+use mathlib.Core.Bool.{Bool, true}
 use mathlib.Core.List.{List, _++_}
 use Prim.Native.Nat.{ℕ, zero, suc, _+_, _*_, _/_, _%_, _^_}
 use lib.Dec.{eqb, leb}
+use lib.ListN.{replicate}
 use Rattle.choice.specs.Choice.{both, either, pick}
 use Rattle.wire.specs.Bytes.{part, number, bytesOf, zeros, patch}
-use Rattle.seal.specs.Seal.{checked, seal, blank}
+use Rattle.seal.specs.Seal.{checked}
 use Rattle.units.specs.declared.UnitState.{UnitState}
 use Rattle.units.specs.declared.UnitState.the-variants.{Unused, Used, Unsound}
 
@@ -54,6 +55,35 @@ workingKey v l = part (112 + 20 * v) 20 l
 unfoldable pub isValid : ℕ → List ℕ → Bool
 isValid v l = eqb (mask l / 2 ^ v % 2) 1
 
+-- ---- a record with another value in a field: all else is kept, the check too, which `seal` makes anew
+
+abbrev pub withMethod : ℕ → List ℕ → List ℕ
+withMethod m l = patch l 4 (bytesOf 2 m)
+
+abbrev pub withMask : ℕ → List ℕ → List ℕ
+withMask m l = patch l 6 (bytesOf 2 m)
+
+abbrev pub withTag : ℕ → List ℕ → List ℕ
+withTag t l = patch l 8 (bytesOf 4 t)
+
+abbrev pub withStep : ℕ → List ℕ → List ℕ
+withStep s l = patch l 12 (bytesOf 4 s)
+
+abbrev pub withPair : List ℕ → List ℕ → List ℕ → List ℕ
+withPair auth gen l = patch l 32 (auth ++ gen)
+
+abbrev pub withNextPair : List ℕ → List ℕ → List ℕ → List ℕ
+withNextPair auth gen l = patch l 72 (auth ++ gen)
+
+abbrev pub withWorkingKey : ℕ → List ℕ → List ℕ → List ℕ
+withWorkingKey v key l = patch l (112 + 20 * v) key
+
+-- the next pair and the sixteen working keys zero
+abbrev pub withoutNextAndWorking : List ℕ → List ℕ
+withoutNextAndWorking l = patch l 72 (replicate 360 0)
+
+-- ---- soundness
+
 -- of the versions below n, each key that is not valid is zero
 unfoldable pub keysZero : ℕ → List ℕ → Bool
 keysZero zero l = true
@@ -87,24 +117,10 @@ unitAt u units = part (u * 512) 512 units
 unfoldable pub unitState : List ℕ → ℕ → UnitState
 unitState units u = unitStateOf u (unitAt u units)
 
--- the record that keeps unit u's keys, mask and step: its own
+-- the unit that keeps unit u's keys, mask and step: itself
+unfoldable pub keeperOf : List ℕ → ℕ → ℕ
+keeperOf units u = u
+
+-- unit u's key set: the record of its keeper
 unfoldable pub keySetOf : List ℕ → ℕ → List ℕ
-keySetOf units u = unitAt u units
-
--- is version v's working key valid in unit u's key set, and the key
-unfoldable pub validKey : List ℕ → ℕ → ℕ → Bool
-validKey units u v = isValid v (keySetOf units u)
-
-unfoldable pub workingKeyOf : List ℕ → ℕ → ℕ → List ℕ
-workingKeyOf units u v = workingKey v (keySetOf units u)
-
--- ---- a record as it is built: mask 0, step 0, the rest as asked, no next pair and no working key
-
-unfoldable pub builtHead : ℕ → ℕ → ℕ → List ℕ
-builtHead u m t = bytesOf 2 1 ++ (bytesOf 2 u ++ (bytesOf 2 m ++ (bytesOf 2 0 ++ (bytesOf 4 t ++ bytesOf 4 0))))
-
-unfoldable pub builtBody : ℕ → ℕ → ℕ → List ℕ → List ℕ → List ℕ → List ℕ
-builtBody u m t id auth gen = builtHead u m t ++ (id ++ (auth ++ gen))
-
-unfoldable pub builtRecord : ℕ → ℕ → ℕ → List ℕ → List ℕ → List ℕ → List ℕ
-builtRecord u m t id auth gen = seal (patch blank 0 (builtBody u m t id auth gen))
+keySetOf units u = unitAt (keeperOf units u) units

@@ -1,5 +1,5 @@
 -- Bytes in lists: parts, big-endian numbers, zeros, equality, and one write. Reads are total: past a list's end stand zeros.
-use Prim.Native.Nat.{ℕ, zero, suc, _+_, _*_, _/_, _%_}
+use Prim.Native.Nat.{ℕ, zero, suc, _+_, _*_, _/_, _%_, _<_}
 use mathlib.Core.Bool.{Bool, true, false}
 use mathlib.Core.List.{List, [], _∷_, _++_}
 use lib.Dec.{eqb}
@@ -12,6 +12,10 @@ same [] [] = true
 same [] (y ∷ ys) = false
 same (x ∷ xs) [] = false
 same (x ∷ xs) (y ∷ ys) = both (eqb x y) (same xs ys)
+
+-- bytes: every element is below 256
+abbrev pub AreBytes : List ℕ → Type 0
+AreBytes l = (i : ℕ) → getD l i 0 < 256
 
 -- the n bytes of l from a on
 abbrev pub part : ℕ → ℕ → List ℕ → List ℕ

@@ -1,15 +1,15 @@
 -- Laws of a patched list: its length, and what stands in it inside and outside the patch, byte by byte and part by part.
-use mathlib.Core.Path.{_≡_, refl, _∙_, sym, ap}
+use mathlib.Core.Path.{_≡_, refl, _∙_, sym, ap, ap₂}
 use mathlib.Core.Logic.{_⊎_, inl, inr, ⊎-elim}
 use mathlib.Core.Bool.{Bool, true, false}
-use mathlib.Core.List.{List, [], _∷_, _++_, append-assoc}
+use mathlib.Core.List.{List, _++_, append-assoc}
 use Prim.Native.Nat.{ℕ, _+_, _-_, _*_, _≤_, _<_}
 use native.Mathlib.Omega.{arith}
 use lib.ListN.{length, take, drop, getD, length-append, length-take, length-drop, List·getD-append}
 use native.Mathlib.Nat.{add-assoc, add-sub-cancel-left}
 use lib.Dec.{ltb}
 use borrow.Author.Tests.{ltb-true, ltb-false}
-use lib.Seq.{paste, take-at, drop-at, take-length, drop-drop, length-take-le, getD-append-add, getD-take, getD-drop, ext-getD}
+use lib.Seq.{paste, take-add, take-at, drop-at, take-length, drop-drop, length-take-le, getD-append-add, getD-take, getD-drop, ext-getD}
 use Rattle.wire.specs.Bytes.{part, patch}
 
 pub length-patch : (xs : List ℕ) (a : ℕ) (ys : List ℕ) → a + length ys ≤ length xs → length (patch xs a ys) ≡ length xs
@@ -32,6 +32,26 @@ patch-lent xs a n ys zs h k e =
 -- the n bytes from a on, as `&l[a..a + n]` lends them
 pub lent-part : (l : List ℕ) (a n : ℕ) → take (a + n - a) (drop a l) ≡ part a n l
 lent-part l a n = rw (add-sub-cancel-left a n)
+
+-- two parts, one behind the other, make one
+pub part-join : (a n m : ℕ) (l xs ys : List ℕ) → xs ≡ part a n l → ys ≡ part (a + n) m l → xs ++ ys ≡ part a (n + m) l
+part-join a n m l xs ys ex ey =
+    ap₂ (λ (x y : List ℕ). x ++ y) ex (ey ∙ ap (take m) (sym (drop-drop n a l))) ∙ sym (take-add n m (drop a l))
+
+-- and two lists that agree on both agree on the one
+pub parts-same : (a n m : ℕ) (l k : List ℕ) → part a n l ≡ part a n k → part (a + n) m l ≡ part (a + n) m k
+    → part a (n + m) l ≡ part a (n + m) k
+parts-same a n m l k e f =
+    sym (part-join a n m l (part a n l) (part (a + n) m l) refl refl) ∙ part-join a n m k (part a n l) (part (a + n) m l) e f
+
+-- what starts with one list, then another, has the one as its first part, with the other behind it
+pub part-next : (a n : ℕ) (l xs ys zs : List ℕ) → length xs ≡ n → drop a l ≡ (xs ++ ys) ++ zs
+    → (part a n l ≡ xs) × (drop (a + n) l ≡ ys ++ zs)
+part-next a n l xs ys zs k e =
+    let d : drop a l ≡ xs ++ (ys ++ zs) = e ∙ append-assoc xs ys zs in (
+      ap (take n) d ∙ take-at xs (ys ++ zs) n k,
+      sym (drop-drop n a l) ∙ ap (drop n) d ∙ drop-at xs (ys ++ zs) n k,
+    )
 
 module _ (xs : List ℕ) (a : ℕ) (ys : List ℕ) (fits : a + length ys ≤ length xs) where
   front : length (take a xs) ≡ a

@@ -1,5 +1,5 @@
 -- `same` tells whether two lists are equal, and so does the or of the differences of their bytes.
-use Prim.Native.Nat.{ℕ, suc, _+_, _≤_, _<_}
+use Prim.Native.Nat.{ℕ, _+_, _≤_, _<_}
 use mathlib.Core.Path.{_≡_, refl, sym, ap, ap₂, _∙_}
 use mathlib.Core.Bool.{Bool, true, false}
 use mathlib.Core.List.{List, [], _∷_, _++_}
@@ -7,10 +7,9 @@ use native.Mathlib.Omega.{arith}
 use native.Mathlib.Numerals.{add-one}
 use lib.ListN.{length, getD, take, drop, length-drop}
 use lib.Seq.{take-suc, take-all, getD-at, getD-take, getD-drop, length-take-le, take-at}
-use lib.Bits.{bitAnd, bitOr, bitXor, or-add-and, xor-add-and, xor-self, or-zero-r, and-le-l, and-le-r}
+use lib.Bits.{bitOr, bitXor, or-add-and, xor-add-and, xor-self, and-le-l, and-le-r}
 use lib.Dec.{eqb}
-use borrow.Author.Tests.{eq-eqb, eqb-true, eqb-false}
-use Rattle.choice.specs.Choice.{both}
+use borrow.Author.Tests.{eq-eqb, eqb-true}
 use Rattle.choice.specs.ChoiceLaws.{both-true}
 use Rattle.wire.specs.Bytes.{same, part}
 

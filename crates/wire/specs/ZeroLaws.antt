@@ -16,7 +16,7 @@ use Rattle.choice.specs.ChoiceLaws.{both-true}
 use Rattle.wire.specs.Bytes.{part, number, zeros, patch}
 use Rattle.wire.specs.NumberLaws.{number-none}
 use Rattle.wire.specs.SameLaws.{or-none}
-use Rattle.wire.specs.PatchLaws.{at-outside}
+use Rattle.wire.specs.PatchLaws.{at-outside, parts-same}
 
 -- ---- the bytes: each is zero, and each being zero is enough
 
@@ -33,7 +33,8 @@ unfolding zeros
 zeros-all zero a l e = refl
 zeros-all (suc n) a l e =
     let z : getD l a 0 ≡ 0 = rw add-zero at (e 0 (omega arith)) in
-    let t : zeros n (a + 1) l ≡ true = zeros-all n (a + 1) l (λ i h. let q : a + suc i ≡ a + 1 + i = omega arith in rw q at (e (suc i) (omega arith))) in
+    let t : zeros n (a + 1) l ≡ true =
+    zeros-all n (a + 1) l (λ i h. let q : a + suc i ≡ a + 1 + i = omega arith in rw q at (e (suc i) (omega arith))) in
     rw (eq-eqb (getD l a 0) 0 z, t)
 
 -- ---- the loop: the or of the bytes so far, and the bytes that are left
@@ -93,6 +94,15 @@ zeros-part n a l h z =
   where
     lens : length (part a n l) ≡ length {A = ℕ} (replicate n 0)
     lens = simp (length-take, length-drop, length-replicate) (omega arith)
+
+-- two lists that agree on n bytes of a room, with zeros in the rest of it, agree on all of it
+pub room-same : (a room n : ℕ) (l k : List ℕ) → n ≤ room → a + room ≤ length l → a + room ≤ length k → part a n l ≡ part a n k
+    → zeros (room - n) (a + n) l ≡ true → zeros (room - n) (a + n) k ≡ true → part a room l ≡ part a room k
+room-same a room n l k h hl hk e zl zk =
+    let all : n + (room - n) ≡ room = omega arith in
+    let rest : part (a + n) (room - n) l ≡ part (a + n) (room - n) k =
+    zeros-part (room - n) (a + n) l (omega arith) zl ∙ sym (zeros-part (room - n) (a + n) k (omega arith) zk) in
+    rw all at (parts-same a n (room - n) l k e rest)
 
 -- a run of zeros within a run of zeros
 pub zeros-within : (n a m b : ℕ) (l : List ℕ) → a ≤ b → b + m ≤ a + n → zeros n a l ≡ true → zeros m b l ≡ true

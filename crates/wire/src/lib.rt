@@ -3,10 +3,10 @@ ghost use mathlib.Core.Path.{_≡_};
 ghost use mathlib.Core.Logic.{_⊎_};
 ghost use Prim.Native.Nat.{_+_, _≤_, _<_};
 ghost use lib.ListN.{length, getD};
-ghost use Rattle.choice.specs.Choice.{both, either};
 ghost use Rattle.wire.specs.Bytes.{same, part, number, bytesOf, zeros, patch};
 
-// Are the two the same? All 20 bytes are looked at whatever they hold, so that the time taken tells nobody how many were right.
+// Are the two the same? The loop has no way out but its end, whatever the bytes hold. What the compiler makes of it, and so what the time
+// taken tells, is not proved.
 pub fn same20(a: [u8; 20], b: [u8; 20]) -> bool
     ensures { λ r. ⌜ r ≡ same a b ⌝ }
 {

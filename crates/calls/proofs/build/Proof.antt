@@ -1,9 +1,9 @@
 -- The tests one after another; then the record at its place is written.
+use borrow.Author.Needs.{needs}
 use Prim.Native.Nat.{_*_}
 use native.Mathlib.Omega.{arith}
 use Rattle.wire.specs.PatchLaws.{patch-lent}
 use Rattle.calls.specs.BuildLaws.{build-length, build-unit, build-method, build-good}
-use borrow.Author.Needs.{needs}
 use Rattle.calls.proofs.build.Statement.{statement}
 use Rattle.calls.proofs.build.Tie as tie
 
@@ -11,10 +11,15 @@ returns : tie.Need-returns
 returns c = build-length _ _ _ _ _ _ _ (c .if1 .taken)
 
 returns-2 : tie.Need-returns-2
-returns-2 c = build-unit _ _ _ _ _ _ _ (c .before .if1 .left) (c .if2 .taken)
+returns-2 c =
+    let c1 = c .before in
+    build-unit _ _ _ _ _ _ _ (c1 .if1 .left) (c .if2 .taken)
 
 returns-3 : tie.Need-returns-3
-returns-3 c = build-method _ _ _ _ _ _ _ (c .before .before .if1 .left) (c .before .if2 .left) (c .if3 .taken)
+returns-3 c =
+    let c1 = c .before in
+    let c2 = c1 .before in
+    build-method _ _ _ _ _ _ _ (c2 .if1 .left) (c1 .if2 .left) (c .if3 .taken)
 
 cast-a : tie.Need-cast-a
 cast-a c = search needs
@@ -42,11 +47,14 @@ same-length c = search needs
 
 returns-4 : tie.Need-returns-4
 returns-4 c =
-    let c₁ = c .before .before .before .before .before .before .before in
-    let a = c₁ .before .before .before .before .args in
-    let w = c .before .before .write-built in
-    build-good _ _ _ _ _ _ _ (c₁ .before .before .if1 .left) (c₁ .before .if2 .left) (c₁ .if3 .left) _
-    (patch-lent (a .units .now) (a .unit .0 * 512) 512 _ _ (omega arith) (w .kept .0) (w .ensures))
+    let c2 = c .before .before in
+    let c7 = c2 .before .before .before .before .before in
+    let c8 = c7 .before in
+    let c9 = c8 .before in
+    let c11 = c9 .before .before in
+    let a = c11 .args in
+    let w = c2 .write-built in
+    build-good _ _ _ _ _ _ _ (c9 .if1 .left) (c8 .if2 .left) (c7 .if3 .left) _ (patch-lent (a .units .now) (a .unit .0 * 512) 512 _ _ (omega arith) (w .kept .0) (w .ensures))
 
 pub build-spec : {M : Type 1} → statement M
 build-spec =

@@ -1,11 +1,11 @@
 -- Zeros so far, and the rest as it was.
-use mathlib.Core.Path.{_≡_, refl, _∙_, sym, ap}
+use mathlib.Core.Path.{_≡_, refl, _∙_}
 use mathlib.Core.List.{_++_, append-nil}
-use Prim.Native.Nat.{_≤_, _-_, _+_, _*_}
+use Prim.Native.Nat.{_≤_, _-_}
 use native.Mathlib.Omega.{arith}
 use denote.Ref.{now}
-use lib.ListN.{length, replicate, drop, drop-of-length-le, length-append, length-replicate, length-drop, length-set}
-use borrow.Author.Fill.{fill-none, fill-more}
+use lib.ListN.{length, replicate, drop, drop-of-length-le, length-set}
+use borrow.Author.Fill.{fill-more}
 use borrow.Author.Needs.{needs}
 use Rattle.seal.proofs.clear.Statement.{statement}
 use Rattle.seal.proofs.clear.Tie as tie

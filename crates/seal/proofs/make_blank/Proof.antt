@@ -1,6 +1,5 @@
 -- Zeros, and the constant behind them.
-use mathlib.Core.Path.{_∙_, ap, ap₂}
-use mathlib.Core.List.{List}
+use mathlib.Core.Path.{_∙_, ap}
 use Prim.Native.Nat.{ℕ}
 use lib.ListN.{replicate}
 use Rattle.wire.specs.Bytes.{patch}

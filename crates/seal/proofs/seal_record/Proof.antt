@@ -1,8 +1,4 @@
 -- One patch, of what was made from bytes 0-491.
-use mathlib.Core.Path.{_∙_, ap}
-use mathlib.Core.List.{List}
-use Prim.Native.Nat.{ℕ}
-use Rattle.wire.specs.Bytes.{patch}
 use Rattle.seal.specs.Seal.{seal}
 use borrow.Author.Needs.{needs}
 use Rattle.seal.proofs.seal_record.Statement.{statement}

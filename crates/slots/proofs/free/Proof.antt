@@ -8,8 +8,8 @@ use borrow.Author.Needs.{needs}
 use Rattle.slots.proofs.free.Statement.{statement}
 use Rattle.slots.proofs.free.Tie as tie
 
-cast-i : tie.Need-cast-i
-cast-i c = search needs
+cast-a : tie.Need-cast-a
+cast-a c = search needs
 
 mul-a : tie.Need-mul-a
 mul-a c = search needs
@@ -37,13 +37,14 @@ unfolding freed
 returns c =
     let k = c .before .before in
     let g = k .before .before .before .before .args in
-    patch-lent (now (g .slots)) (g .slot .0 * 512) 512 (k .make-blank .last .0) _ (omega arith) (k .make-blank .kept .0) (k .make-blank .ensures)
+    patch-lent (now (g .slots)) (g .slot .0 * 512) 512 (k .make-blank .last .0) _ (omega arith)
+    (k .make-blank .kept .0) (k .make-blank .ensures)
 
 pub free-spec : {M : Type 1} → statement M
 free-spec =
     tie.close
     (tie.spec
-    cast-i
+    cast-a
     mul-a
     add-make-blank
     sub-make-blank

@@ -19,9 +19,6 @@ loop-holds : tie.Need-loop-holds Inv-loop μ-loop
 unfolding lowestFree
 loop-holds c = (omega arith, refl)
 
-cast-is-free-at : tie.Need-cast-is-free-at Inv-loop μ-loop
-cast-is-free-at c = search needs
-
 is-free-at-requires : tie.Need-is-free-at-requires Inv-loop μ-loop
 is-free-at-requires c κs = search needs
 
@@ -55,7 +52,6 @@ lowest-free-spec =
     Inv-loop
     μ-loop
     loop-holds
-    cast-is-free-at
     is-free-at-requires
     returns
     add-i

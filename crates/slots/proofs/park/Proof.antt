@@ -8,8 +8,8 @@ use borrow.Author.Needs.{needs}
 use Rattle.slots.proofs.park.Statement.{statement}
 use Rattle.slots.proofs.park.Tie as tie
 
-cast-i : tie.Need-cast-i
-cast-i c = search needs
+cast-a : tie.Need-cast-a
+cast-a c = search needs
 
 mul-a : tie.Need-mul-a
 mul-a c = search needs
@@ -37,13 +37,14 @@ unfolding parked
 returns c =
     let k = c .before .before in
     let g = k .before .before .before .before .before .before .args in
-    patch-lent (now (g .slots)) (g .slot .0 * 512) 512 (k .write-open .last .0) _ (omega arith) (k .write-open .kept .0) (k .write-open .ensures)
+    patch-lent (now (g .slots)) (g .slot .0 * 512) 512 (k .write-open .last .0) _ (omega arith)
+    (k .write-open .kept .0) (k .write-open .ensures)
 
 pub park-spec : {M : Type 1} → statement M
 park-spec =
     tie.close
     (tie.spec
-    cast-i
+    cast-a
     mul-a
     add-write-open
     sub-write-open

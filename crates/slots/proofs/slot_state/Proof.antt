@@ -21,14 +21,16 @@ returns-2 : tie.Need-returns-2
 returns-2 c =
     let k = c .before .before .before in
     let b = k .before .before in
-    sym (checked-state _ (b .before .before .pre) (sym (b .is-blank .ensures) ∙ k .before .if1 .left) (sym (k .is-checked .ensures) ∙ c .before .before .if2 .taken)
+    sym (checked-state _ (b .before .before .pre) (sym (b .is-blank .ensures) ∙ k .before .if1 .left)
+    (sym (k .is-checked .ensures) ∙ c .before .before .if2 .taken)
     ∙ rw (← c .before .open-shape .ensures, c .if3 .taken))
 
 returns-3 : tie.Need-returns-3
 returns-3 c =
     let k = c .before .before .before in
     let b = k .before .before in
-    sym (checked-state _ (b .before .before .pre) (sym (b .is-blank .ensures) ∙ k .before .if1 .left) (sym (k .is-checked .ensures) ∙ c .before .before .if2 .taken)
+    sym (checked-state _ (b .before .before .pre) (sym (b .is-blank .ensures) ∙ k .before .if1 .left)
+    (sym (k .is-checked .ensures) ∙ c .before .before .if2 .taken)
     ∙ rw (← c .before .open-shape .ensures, c .if3 .left))
 
 returns-4 : tie.Need-returns-4

@@ -44,7 +44,7 @@ returns c =
     let s5 = s4 .before .before .before .before .before in
     let h = s5 .before .before in
     let g = h .before .before .before .before in
-    open-steps (g .args .unit) (now (g .args .command)) (now (g .args .token)) _ _ _ _ _ _ _ (h .open-head .ensures)
+    open-steps (g .args .unit .0) (now (g .args .command)) (now (g .args .token)) _ _ _ _ _ _ _ (h .open-head .ensures)
     (s5 .clear .ensures) (g .pre .0) (s4 .put .ensures) (s3 .put2 .ensures) (s2 .put3 .ensures) (s1 .seal-record .ensures)
 
 pub write-open-spec : {M : Type 1} → statement M

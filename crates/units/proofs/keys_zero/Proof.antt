@@ -1,10 +1,9 @@
 -- The keys of the versions so far are zero where the mask does not call them valid.
-use mathlib.Core.Path.{_≡_, refl, sym, ap, ap₂, _∙_}
-use Prim.Native.Nat.{ℕ, _+_, _*_, _/_, _%_, _^_, _≤_, _-_}
+use mathlib.Core.Path.{_≡_, sym, ap, ap₂, _∙_}
+use Prim.Native.Nat.{ℕ, _/_, _%_, _^_, _≤_, _-_}
 use native.Mathlib.Omega.{arith}
 use lib.Dec.{eqb}
 use Rattle.choice.specs.Choice.{both, either}
-use Rattle.wire.specs.Bytes.{number}
 use Rattle.units.specs.Unit.{keysZero, isValid, mask}
 use Rattle.units.specs.UnitLaws.{keys-zero, keys-more}
 use borrow.Author.Needs.{needs}
@@ -12,16 +11,16 @@ use Rattle.units.proofs.keys_zero.Statement.{statement}
 use Rattle.units.proofs.keys_zero.Tie as tie
 
 abbrev Inv-loop : tie.InvT-loop
-Inv-loop rec mask ok₀ v₀ ok v = (v ≤ 16) × (mask ≡ number 2 6 rec) × (ok ≡ keysZero v rec)
+Inv-loop rec m ok₀ v₀ ok v = (v ≤ 16) × (m ≡ mask rec) × (ok ≡ keysZero v rec)
 
 abbrev μ-loop : tie.MeasureT-loop
-μ-loop rec mask ok₀ v₀ ok v = 16 - v
+μ-loop rec m ok₀ v₀ ok v = 16 - v
 
-be16-requires : tie.Need-be16-requires Inv-loop μ-loop
-be16-requires c κs = search needs
+mask-of-requires : tie.Need-mask-of-requires Inv-loop μ-loop
+mask-of-requires c κs = search needs
 
 loop-holds : tie.Need-loop-holds Inv-loop μ-loop
-loop-holds c = (omega arith, c .be16 .ensures, sym (keys-zero _))
+loop-holds c = (omega arith, c .mask-of .ensures, sym (keys-zero _))
 
 cast-are-zeros : tie.Need-cast-are-zeros Inv-loop μ-loop
 cast-are-zeros c = search needs
@@ -51,16 +50,17 @@ loop-less : tie.Need-loop-less Inv-loop μ-loop
 loop-less c = search needs
 
 loop-again : tie.Need-loop-again Inv-loop μ-loop
-unfolding isValid mask
+unfolding isValid
 loop-again c =
     let c₁ = c .before .before .before in
     let l = c₁ .before .before .loop in
-    let v : ℕ = l .v in (
+    let v : ℕ = l .v in
+    let bit = c .before .before .has-bit .ensures ∙ ap (λ (m : ℕ). eqb (m / 2 ^ v % 2) 1) (l .inv .1) in (
       omega arith,
       l .inv .1,
       c .and .ensures
           ∙ ap₂ both (l .inv .2)
-          (c .before .or .ensures ∙ ap₂ either (c .before .before .has-bit .ensures ∙ ap (λ (m : ℕ). eqb (m / 2 ^ v % 2) 1) (l .inv .1)) (c₁ .are-zeros .ensures))
+          (c .before .or .ensures ∙ ap₂ either bit (c₁ .are-zeros .ensures))
           ∙ sym (keys-more v _),
     )
 
@@ -76,7 +76,7 @@ keys-zero-spec =
     (tie.spec
     Inv-loop
     μ-loop
-    be16-requires
+    mask-of-requires
     loop-holds
     cast-are-zeros
     mul-are-zeros

@@ -12,7 +12,7 @@ is-blank-requires c κs = search needs
 returns : tie.Need-returns
 returns c =
     let c₀ = c .before .before .before in
-    state-unused (c₀ .args .place) _ (c₀ .pre) (sym (c .before .is-blank .ensures) ∙ c .if1 .taken)
+    state-unused (c₀ .args .place .0) _ (c₀ .pre) (sym (c .before .is-blank .ensures) ∙ c .if1 .taken)
 
 used-shape-requires : tie.Need-used-shape-requires
 used-shape-requires c κs = search needs
@@ -27,15 +27,17 @@ returns-2 : tie.Need-returns-2
 returns-2 c =
     let c₁ = c .before .before .before .before in
     let c₀ = c₁ .before .before .before in
-    state-used (c₀ .args .place) _ (c₀ .pre) (sym (c₁ .before .is-blank .ensures) ∙ c₁ .if1 .left)
-    (sym (c .before .and .ensures ∙ ap₂ both (c .before .before .before .used-shape .ensures) (c .before .before .is-checked .ensures)) ∙ c .if2 .taken)
+    state-used (c₀ .args .place .0) _ (c₀ .pre) (sym (c₁ .before .is-blank .ensures) ∙ c₁ .if1 .left)
+    (sym (c .before .and .ensures ∙ ap₂ both (c .before .before .before .used-shape .ensures) (c .before .before .is-checked .ensures))
+    ∙ c .if2 .taken)
 
 returns-3 : tie.Need-returns-3
 returns-3 c =
     let c₁ = c .before .before .before .before in
     let c₀ = c₁ .before .before .before in
-    state-unsound (c₀ .args .place) _ (c₀ .pre) (sym (c₁ .before .is-blank .ensures) ∙ c₁ .if1 .left)
-    (sym (c .before .and .ensures ∙ ap₂ both (c .before .before .before .used-shape .ensures) (c .before .before .is-checked .ensures)) ∙ c .if2 .left)
+    state-unsound (c₀ .args .place .0) _ (c₀ .pre) (sym (c₁ .before .is-blank .ensures) ∙ c₁ .if1 .left)
+    (sym (c .before .and .ensures ∙ ap₂ both (c .before .before .before .used-shape .ensures) (c .before .before .is-checked .ensures))
+    ∙ c .if2 .left)
 
 pub state-of-spec : {M : Type 1} → statement M
 state-of-spec =

@@ -1,49 +1,26 @@
--- The record is the 512 bytes at its place.
+-- The state of the record at its place.
 use mathlib.Core.Path.{_∙_, ap}
-use mathlib.Core.List.{List}
-use Prim.Native.Nat.{ℕ, _*_}
-use Rattle.wire.specs.PatchLaws.{lent-part}
+use lib.ListN.{length}
+use denote.Ref.{now}
 use Rattle.units.specs.Unit.{unitState, unitStateOf}
+use Rattle.units.specs.UnitLaws.{unit-length}
 use borrow.Author.Needs.{needs}
 use Rattle.units.proofs.unit_state.Statement.{statement}
 use Rattle.units.proofs.unit_state.Tie as tie
 
-cast-a : tie.Need-cast-a
-cast-a c = search needs
-
-mul-a : tie.Need-mul-a
-mul-a c = search needs
-
-add-e : tie.Need-add-e
-add-e c = search needs
-
-sub-state-of : tie.Need-sub-state-of
-sub-state-of c = search needs
-
-part-state-of-start : tie.Need-part-state-of-start
-part-state-of-start c = search needs
-
-part-state-of-end : tie.Need-part-state-of-end
-part-state-of-end c = search needs
+record-of-requires : tie.Need-record-of-requires
+record-of-requires c κs = search needs
 
 state-of-requires : tie.Need-state-of-requires
-state-of-requires c κs = search needs
+state-of-requires c κs =
+    let s = c .before .before in
+    ap length (c .record-of .ensures) ∙ unit-length (s .args .unit .0) (now (s .args .units)) (s .pre .0) (s .pre .1)
 
 returns : tie.Need-returns
 unfolding unitState
 returns c =
-    let a = c .before .before .before .args in
-    c .state-of .ensures ∙ ap (unitStateOf (a .unit .0)) (lent-part (a .units .now) (a .unit .0 * 512) 512)
+    let s = c .before .before .before in
+    c .state-of .ensures ∙ ap (unitStateOf (s .args .unit .0)) (c .before .record-of .ensures)
 
 pub unit-state-spec : {M : Type 1} → statement M
-unit-state-spec =
-    tie.close
-    (tie.spec
-    cast-a
-    mul-a
-    add-e
-    sub-state-of
-    part-state-of-start
-    part-state-of-end
-    state-of-requires
-    returns)
+unit-state-spec = tie.close (tie.spec record-of-requires state-of-requires returns)

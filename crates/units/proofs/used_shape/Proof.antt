@@ -1,5 +1,5 @@
 -- Call by call as the definition has it.
-use Rattle.units.specs.Unit.{usedShape, layout, unitNumber, method, step, nextPairZero, unnamedZero}
+use Rattle.units.specs.Unit.{usedShape, layout, unitNumber, nextPairZero, unnamedZero}
 use borrow.Author.Needs.{needs}
 use Rattle.units.proofs.used_shape.Statement.{statement}
 use Rattle.units.proofs.used_shape.Tie as tie
@@ -13,11 +13,11 @@ be16-requires-2 c κs = search needs
 cast-number : tie.Need-cast-number
 cast-number c = search needs
 
-be16-requires-3 : tie.Need-be16-requires-3
-be16-requires-3 c κs = search needs
+method-of-requires : tie.Need-method-of-requires
+method-of-requires c κs = search needs
 
-be32-requires : tie.Need-be32-requires
-be32-requires c κs = search needs
+step-of-requires : tie.Need-step-of-requires
+step-of-requires c κs = search needs
 
 are-zeros-requires : tie.Need-are-zeros-requires
 are-zeros-requires c κs = search needs
@@ -50,9 +50,26 @@ and-requires-6 : tie.Need-and-requires-6
 and-requires-6 c κs = search needs
 
 returns : tie.Need-returns
-unfolding usedShape layout unitNumber method step nextPairZero unnamedZero
+unfolding usedShape layout unitNumber nextPairZero unnamedZero
 returns c =
-    simp (c .and6 .ensures, c .before .and5 .ensures, c .before .before .and4 .ensures, c .before .before .before .and3 .ensures, c .before .before .before .before .and2 .ensures, c .before .before .before .before .before .and .ensures, c .before .before .before .before .before .before .are-zeros2 .ensures, c .before .before .before .before .before .before .before .keys-zero .ensures, c .before .before .before .before .before .before .before .before .or .ensures, c .before .before .before .before .before .before .before .before .before .are-zeros .ensures, c .before .before .before .before .before .before .before .before .before .before .be32 .ensures, c .before .before .before .before .before .before .before .before .before .before .before .be163 .ensures, c .before .before .before .before .before .before .before .before .before .before .before .before .be162 .ensures, c .before .before .before .before .before .before .before .before .before .before .before .before .before .be16 .ensures)
+    let k = c .before .before .before .before .before .before in
+    let f = k .before .before .before .before in
+    simp (
+      c .and6 .ensures,
+      c .before .and5 .ensures,
+      c .before .before .and4 .ensures,
+      c .before .before .before .and3 .ensures,
+      c .before .before .before .before .and2 .ensures,
+      c .before .before .before .before .before .and .ensures,
+      k .are-zeros2 .ensures,
+      k .before .keys-zero .ensures,
+      k .before .before .or .ensures,
+      k .before .before .before .are-zeros .ensures,
+      f .step-of .ensures,
+      f .before .method-of .ensures,
+      f .before .before .before .be162 .ensures,
+      f .before .before .before .before .be16 .ensures,
+    )
 
 pub used-shape-spec : {M : Type 1} → statement M
 used-shape-spec =
@@ -61,8 +78,8 @@ used-shape-spec =
     be16-requires
     be16-requires-2
     cast-number
-    be16-requires-3
-    be32-requires
+    method-of-requires
+    step-of-requires
     are-zeros-requires
     or-requires
     keys-zero-requires

@@ -1,9 +1,9 @@
 -- The bytes so far are those of the slice.
-use mathlib.Core.Path.{_≡_, refl, sym, ap, _∙_}
-use Prim.Native.Nat.{ℕ, _+_, _≤_, _<_, _-_}
+use mathlib.Core.Path.{_≡_, refl, sym, _∙_}
+use Prim.Native.Nat.{_≤_, _<_, _-_}
 use native.Mathlib.Omega.{arith}
 use native.Mathlib.Numerals.{add-one}
-use lib.ListN.{length, take, drop, getD, length-set, length-drop}
+use lib.ListN.{length, take, drop, length-set, length-drop}
 use lib.Seq.{take-suc, take-suc-set, take-all, getD-drop}
 use borrow.Author.Needs.{needs}
 use Rattle.wire.proofs.bytes20.Statement.{statement}
@@ -38,10 +38,11 @@ loop-again c =
     let l = c .before .before .loop in
     let g = c .before .before .before .args in
     let s = g .s .now in
-    let full : l .i < length (drop (g .a) s) = rw length-drop (omega arith) in (
+    let d = drop (g .a) s in
+    let full : l .i < length d = rw length-drop (omega arith) in (
       omega arith,
       simp length-set (omega arith),
-      rw (add-one, take-suc-set (l .r) (l .i) _ (omega arith), l .inv .2, take-suc (drop (g .a) s) (l .i) 0 full, getD-drop (g .a) s (l .i) 0),
+      rw (add-one, take-suc-set (l .r) (l .i) _ (omega arith), l .inv .2, take-suc d (l .i) 0 full, getD-drop (g .a) s (l .i) 0),
     )
 
 returns : tie.Need-returns Inv-loop μ-loop

@@ -9,7 +9,8 @@ use Rattle.wire.proofs.same_parts.Statement.{statement}
 use Rattle.wire.proofs.same_parts.Tie as tie
 
 abbrev Inv-loop : tie.InvT-loop
-Inv-loop s a t b n different₀ i₀ different i = (i ≤ n) × (a + n ≤ length s) × (b + n ≤ length t) × Differs (part a n s) (part b n t) i different
+Inv-loop s a t b n different₀ i₀ different i =
+    (i ≤ n) × (a + n ≤ length s) × (b + n ≤ length t) × Differs (part a n s) (part b n t) i different
 
 abbrev μ-loop : tie.MeasureT-loop
 μ-loop s a t b n different₀ i₀ different i = n - i

@@ -1,17 +1,8 @@
 -- Call by call as the list of tests has it.
-use Rattle.calls.specs.Close.{listTests}
 use borrow.Author.Needs.{needs}
+use Rattle.calls.specs.Whole.{listTests}
 use Rattle.calls.proofs.closing.list_reason.Statement.{statement}
 use Rattle.calls.proofs.closing.list_reason.Tie as tie
-
-at-requires : tie.Need-at-requires
-at-requires c κs = search needs
-
-be16-requires : tie.Need-be16-requires
-be16-requires c κs = search needs
-
-cast-page : tie.Need-cast-page
-cast-page c = search needs
 
 be32-requires : tie.Need-be32-requires
 be32-requires c κs = search needs
@@ -36,15 +27,19 @@ judged-requires-2 c κs = search needs
 
 returns : tie.Need-returns
 unfolding listTests
-returns c = simp (c .judged2 .ensures, c .before .judged .ensures, c .before .before .and2 .ensures, c .before .before .before .wrong-list .ensures, c .before .before .before .before .and .ensures, c .before .before .before .before .before .be32 .ensures, c .before .before .before .before .before .before .be16 .ensures, c .before .before .before .before .before .before .before .at .ensures)
+returns c =
+    let c1 = c .before in
+    let c2 = c1 .before in
+    let c3 = c2 .before in
+    let c4 = c3 .before in
+    let c5 = c4 .before in
+    let c8 = c5 .before .before .before in
+    simp (c .judged2 .ensures, c1 .judged .ensures, c2 .and2 .ensures, c3 .wrong-list .ensures, c4 .and .ensures, c5 .be32 .ensures, c8 .pre)
 
 pub list-reason-spec : {M : Type 1} → statement M
 list-reason-spec =
     tie.close
     (tie.spec
-    at-requires
-    be16-requires
-    cast-page
     be32-requires
     cast-told
     and-requires

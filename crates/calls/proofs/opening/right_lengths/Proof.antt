@@ -1,6 +1,6 @@
 -- Call by call as the definition has it.
-use Rattle.calls.specs.Lent.{rightLengths}
 use borrow.Author.Needs.{needs}
+use Rattle.calls.specs.Outcome.{rightLengths}
 use Rattle.calls.proofs.opening.right_lengths.Statement.{statement}
 use Rattle.calls.proofs.opening.right_lengths.Tie as tie
 
@@ -12,7 +12,9 @@ and-requires-2 c κs = search needs
 
 returns : tie.Need-returns
 unfolding rightLengths
-returns c = simp (c .and2 .ensures, c .before .and .ensures)
+returns c =
+    let c1 = c .before in
+    simp (c .and2 .ensures, c1 .and .ensures)
 
 pub right-lengths-spec : {M : Type 1} → statement M
 right-lengths-spec = tie.close (tie.spec and-requires and-requires-2 returns)

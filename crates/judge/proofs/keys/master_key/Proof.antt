@@ -1,42 +1,40 @@
--- Change reads the next key and the step; any other the key that holds now.
-use mathlib.Core.Path.{_≡_, refl}
-use mathlib.Core.Bool.{Bool, true, false}
-use Prim.Native.Nat.{ℕ}
-use lib.Dec.{eqb}
-use Rattle.choice.specs.Choice.{both}
-use Rattle.units.specs.Unit.{step, authKey, nextAuthKey}
+-- Change takes the next key, which is there at step 1.
 use borrow.Author.Needs.{needs}
+use Rattle.choice.specs.ChoiceLaws.{both-right}
 use Rattle.judge.proofs.keys.master_key.Statement.{statement}
 use Rattle.judge.proofs.keys.master_key.Tie as tie
 
-both-right : (b : Bool) → both b true ≡ b
-both-right true = refl
-both-right false = refl
-
-be32-requires : tie.Need-be32-requires
-be32-requires c κs = search needs
+step-of-requires : tie.Need-step-of-requires
+step-of-requires c κs = search needs
 
 and-requires : tie.Need-and-requires
 and-requires c κs = search needs
 
-bytes20-requires : tie.Need-bytes20-requires
-bytes20-requires c κs = search needs
+next-auth-key-of-requires : tie.Need-next-auth-key-of-requires
+next-auth-key-of-requires c κs = search needs
 
 returns : tie.Need-returns
-unfolding step nextAuthKey
-returns c = (
-  simp (c .before .and .ensures, c .before .before .be32 .ensures, c .before .before .before .if1 .taken),
-  simp (c .bytes20 .ensures, c .before .before .before .if1 .taken),
-)
+returns c =
+    let c1 = c .before in
+    let c2 = c1 .before in
+    let c3 = c2 .before in
+    (simp (c1 .and .ensures, c2 .step-of .ensures, c3 .if1 .taken), simp (c .next-auth-key-of .ensures, c3 .if1 .taken))
 
-bytes20-requires-2 : tie.Need-bytes20-requires-2
-bytes20-requires-2 c κs = search needs
+auth-key-of-requires : tie.Need-auth-key-of-requires
+auth-key-of-requires c κs = search needs
 
 returns-2 : tie.Need-returns-2
-unfolding authKey
-returns-2 c = (simp (c .before .if1 .left, both-right (eqb (c .before .before .before .args .version) 0)), simp (c .bytes202 .ensures, c .before .if1 .left))
+returns-2 c =
+    let c1 = c .before in
+    (simp (c1 .if1 .left, both-right), simp (c .auth-key-of .ensures, c1 .if1 .left))
 
 pub master-key-spec : {M : Type 1} → statement M
 master-key-spec =
     tie.close
-    (tie.spec be32-requires and-requires bytes20-requires returns bytes20-requires-2 returns-2)
+    (tie.spec
+    step-of-requires
+    and-requires
+    next-auth-key-of-requires
+    returns
+    auth-key-of-requires
+    returns-2)

@@ -2,7 +2,6 @@
 use mathlib.Core.Path.{sym, _∙_}
 use borrow.Author.Needs.{needs}
 use borrow.Author.Tests.{ne-eqb}
-use Rattle.model.specs.Rows.{pageNeed}
 use Rattle.model.specs.RowLaws.{need-by-entry, entry-by-page}
 use Rattle.model.proofs.commands.need_of.Statement.{statement}
 use Rattle.model.proofs.commands.need_of.Tie as tie
@@ -11,7 +10,7 @@ entry-requires : tie.Need-entry-requires
 entry-requires c κs = search needs
 
 page-need-requires : tie.Need-page-need-requires
-page-need-requires c κs = search needs
+page-need-requires c κs = entry-by-page _ (sym (c .before .entry .ensures) ∙ c .match .keys3)
 
 returns : tie.Need-returns
 returns c = rw (need-by-entry, ← c .before .entry .ensures, c .match .keys1)
@@ -20,8 +19,7 @@ returns-2 : tie.Need-returns-2
 returns-2 c = rw (need-by-entry, ← c .before .entry .ensures, c .match .keys2)
 
 returns-3 : tie.Need-returns-3
-unfolding pageNeed
-returns-3 c = c .page-need .ensures ∙ rw (entry-by-page _ (sym (c .before .before .entry .ensures) ∙ c .before .match .keys3))
+returns-3 c = c .page-need .ensures
 
 returns-4 : tie.Need-returns-4
 returns-4 c =

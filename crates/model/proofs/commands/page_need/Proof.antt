@@ -1,27 +1,20 @@
 -- The two codes that go by page, and no other.
 use borrow.Author.Needs.{needs}
-use borrow.Author.Tests.{ne-eqb}
-use Rattle.model.specs.Rows.{pageNeed}
+use Rattle.model.specs.RowLaws.{page-code}
 use Rattle.model.proofs.commands.page_need.Statement.{statement}
 use Rattle.model.proofs.commands.page_need.Tie as tie
 
 in-page-need-requires : tie.Need-in-page-need-requires
 in-page-need-requires c κs = search needs
 
+returns : tie.Need-returns
+returns c = rw (c .before .if1 .taken, c .in-page-need .ensures)
+
 out-page-need-requires : tie.Need-out-page-need-requires
 out-page-need-requires c κs = search needs
 
-returns : tie.Need-returns
-unfolding pageNeed
-returns c = rw (c .before .match .keys1, c .in-page-need .ensures)
-
 returns-2 : tie.Need-returns-2
-unfolding pageNeed
-returns-2 c = rw (c .before .match .keys2, c .out-page-need .ensures)
-
-returns-3 : tie.Need-returns-3
-unfolding pageNeed
-returns-3 c = simp (ne-eqb _ _ (c .match .rest .1), ne-eqb _ _ (c .match .rest .0 .1))
+returns-2 c = rw (page-code _ (c .before .before .pre) (c .before .if1 .left), c .out-page-need .ensures)
 
 pub page-need-spec : {M : Type 1} → statement M
-page-need-spec = tie.close (tie.spec in-page-need-requires out-page-need-requires returns returns-2 returns-3)
+page-need-spec = tie.close (tie.spec in-page-need-requires returns out-page-need-requires returns-2)

@@ -14,7 +14,7 @@ same-length : tie.Need-same-length
 same-length c = search needs
 
 returns : tie.Need-returns
-returns c = one-packed _ _ _ _ (c .pack .ensures) (c .before .before .before .abort .ensures)
+returns c = one-packed _ (c .before .before .before .abort .result) _ _ (c .pack .ensures) (c .before .before .before .abort .ensures)
 
 pub nn-abort-spec : {M : Type 1} → statement M
 nn-abort-spec = tie.close (tie.spec abort-requires pack-requires same-length returns)

@@ -14,7 +14,7 @@ same-length : tie.Need-same-length
 same-length c = search needs
 
 returns : tie.Need-returns
-returns c = one-packed _ _ _ _ (c .pack .ensures) (c .before .before .before .build .ensures)
+returns c = one-packed _ (c .before .before .before .build .result) _ _ (c .pack .ensures) (c .before .before .before .build .ensures)
 
 pub nn-build-spec : {M : Type 1} → statement M
 nn-build-spec = tie.close (tie.spec build-requires pack-requires same-length returns)

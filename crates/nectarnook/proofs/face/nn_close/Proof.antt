@@ -20,7 +20,7 @@ same-length-3 : tie.Need-same-length-3
 same-length-3 c = search needs
 
 returns : tie.Need-returns
-returns c = out-packed _ _ _ _ (c .pack .ensures) (c .before .before .before .before .before .before .before .«close» .ensures)
+returns c = out-packed _ (c .before .before .before .before .before .before .before .«close» .result .answer) _ _ (c .pack .ensures) (c .before .before .before .before .before .before .before .«close» .ensures)
 
 pub nn-close-spec : {M : Type 1} → statement M
 nn-close-spec =

@@ -14,7 +14,7 @@ same-length : tie.Need-same-length
 same-length c = search needs
 
 returns : tie.Need-returns
-returns c = one-packed _ _ _ _ (c .pack .ensures) (c .before .before .before .reset .ensures)
+returns c = one-packed _ (c .before .before .before .reset .result) _ _ (c .pack .ensures) (c .before .before .before .reset .ensures)
 
 pub nn-reset-spec : {M : Type 1} → statement M
 nn-reset-spec = tie.close (tie.spec reset-requires pack-requires same-length returns)

@@ -2,7 +2,7 @@
 use native.Mathlib.Omega.{arith}
 use borrow.Author.Tests.{eq-eqb, ne-eqb}
 use Rattle.pages.specs.Effects.{withBit}
-use Rattle.pages.specs.StepLaws.{bit-small, bit-shifted}
+use Rattle.pages.specs.BitLaws.{bit-fits, bit-shifted}
 use borrow.Author.Needs.{needs}
 use Rattle.pages.proofs.effects.with_bit.Statement.{statement}
 use Rattle.pages.proofs.effects.with_bit.Tie as tie
@@ -14,7 +14,10 @@ shr-if1 : tie.Need-shr-if1
 shr-if1 c = search needs
 
 add-result : tie.Need-add-result
-add-result c = omega (arith, bit-shifted (c .before .args .v) (c .before .pre), bit-small (c .before .args .v) (c .before .pre))
+add-result c =
+    let v = c .before .args .version .0 in
+    let m = c .before .args .mask in
+    omega (arith, bit-shifted v (c .before .pre), bit-fits v m (omega arith) (search needs) (c .if1 .left))
 
 returns : tie.Need-returns
 unfolding withBit

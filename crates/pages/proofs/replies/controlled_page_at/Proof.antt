@@ -1,6 +1,7 @@
 -- The head is the page's first four bytes, and the rows stand behind it.
 use mathlib.Core.Path.{sym, _∙_}
 use Rattle.model.specs.Controlled.{controlled}
+use Rattle.model.specs.Protocol.{controlledIn}
 use Rattle.pages.specs.In.{controlledPage}
 use Rattle.pages.specs.InLaws.{framed-at, controlled-head}
 use borrow.Author.Needs.{needs}
@@ -18,7 +19,7 @@ returns c = controlled-head _ (search needs)
 
 returns-2 : tie.Need-returns-2
 unfolding controlledPage
-returns-2 c = c .controlled-at .ensures ∙ sym (framed-at 0x0013 controlled _ (search needs))
+returns-2 c = c .controlled-at .ensures ∙ sym (framed-at controlledIn controlled _ (search needs))
 
 pub controlled-page-at-spec : {M : Type 1} → statement M
 controlled-page-at-spec =

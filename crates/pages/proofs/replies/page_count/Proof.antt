@@ -1,6 +1,5 @@
 -- The smaller of the two, by the test that tells which.
 use native.Mathlib.Omega.{arith}
-use Rattle.pages.specs.In.{countOf}
 use borrow.Author.Needs.{needs}
 use Rattle.pages.proofs.replies.page_count.Statement.{statement}
 use Rattle.pages.proofs.replies.page_count.Tie as tie
@@ -9,11 +8,9 @@ page-size-requires : tie.Need-page-size-requires
 page-size-requires c κs = search needs
 
 returns : tie.Need-returns
-unfolding countOf
 returns c = omega arith
 
 returns-2 : tie.Need-returns-2
-unfolding countOf
 returns-2 c = omega arith
 
 pub page-count-spec : {M : Type 1} → statement M

@@ -1,6 +1,6 @@
 -- Each arm's page picks its size; a page of no arm fails every test.
 use borrow.Author.Tests.{ne-eqb}
-use Rattle.pages.specs.In.{sizeOf}
+use Rattle.pages.specs.InLaws.{sizeOf}
 use Rattle.pages.proofs.replies.page_size.Statement.{statement}
 use Rattle.pages.proofs.replies.page_size.Tie as tie
 

@@ -13,11 +13,11 @@ use Rattle.pages.proofs.replies.write_page.Statement.{statement}
 use Rattle.pages.proofs.replies.write_page.Tie as tie
 
 abbrev Inv-loop : tie.InvT-loop
-Inv-loop reply₀ page rec keys count n i₀ reply i =
-    (i ≤ n) × (n ≡ count) × (length reply ≡ length reply₀) × (reply ≡ take i (inPage page rec keys) ++ drop i reply₀)
+Inv-loop reply₀ page own keys count n i₀ reply i =
+    (i ≤ n) × (n ≡ count) × (length reply ≡ length reply₀) × (reply ≡ take i (inPage page own keys) ++ drop i reply₀)
 
 abbrev μ-loop : tie.MeasureT-loop
-μ-loop reply₀ page rec keys count n i₀ reply i = n - i
+μ-loop reply₀ page own keys count n i₀ reply i = n - i
 
 loop-holds : tie.Need-loop-holds Inv-loop μ-loop
 loop-holds c = (omega arith, search needs, refl, refl)
@@ -38,8 +38,8 @@ loop-again : tie.Need-loop-again Inv-loop μ-loop
 loop-again c =
     let l = c .before .before .loop in
     let g = c .before .before .before .before .before .before .args in
-    let page = inPage (g .page) (now (g .rec)) (now (g .keys)) in
-    let long = page-size (g .page) (now (g .rec)) (now (g .keys)) in
+    let page = inPage (g .page) (now (g .own)) (now (g .keys)) in
+    let long = page-size (g .page) (now (g .own)) (now (g .keys)) in
     let short = size-small (g .page) in (
       omega arith,
       l .inv .1,
@@ -54,8 +54,8 @@ returns : tie.Need-returns Inv-loop μ-loop
 returns c =
     let l = c .before .loop in
     let g = c .before .before .before .before .before .args in
-    let page = inPage (g .page) (now (g .rec)) (now (g .keys)) in
-    let long = page-size (g .page) (now (g .rec)) (now (g .keys)) in
+    let page = inPage (g .page) (now (g .own)) (now (g .keys)) in
+    let long = page-size (g .page) (now (g .own)) (now (g .keys)) in
     let e : l .i ≡ g .count = omega arith in
     l .inv .3 ∙ rw e (copy-patch (now (g .reply)) page (g .count) (omega arith))
 

@@ -1,0 +1,63 @@
+-- A used unit's record as ordinary values: the fields that it holds, and the record that holds them (RoundLaws: each undoes the other).
+use mathlib.Core.List.{List, _++_}
+use Prim.Native.Nat.{ℕ}
+use lib.ListN.{replicate}
+use Rattle.wire.specs.Bytes.{part, bytesOf, patch}
+use Rattle.seal.specs.Seal.{seal, blank}
+use Rattle.units.specs.Unit.{unitNumber, method, mask, policyTag, step, identifier, authKey, genKey, nextAuthKey, nextGenKey}
+
+pub record Fields : Type 0 where
+  pub number : ℕ
+  pub method-number : ℕ
+  pub valid-mask : ℕ
+  pub tag : ℕ
+  pub step-number : ℕ
+  pub name : List ℕ
+  pub auth : List ℕ
+  pub generation : List ℕ
+  pub next-auth : List ℕ
+  pub next-generation : List ℕ
+  -- sixteen keys of 20 bytes, one behind another
+  pub working : List ℕ
+
+abbrev pub fieldsOf : List ℕ → Fields
+fieldsOf l =
+    record {
+      number = unitNumber l;
+      method-number = method l;
+      valid-mask = mask l;
+      tag = policyTag l;
+      step-number = step l;
+      name = identifier l;
+      auth = authKey l;
+      generation = genKey l;
+      next-auth = nextAuthKey l;
+      next-generation = nextGenKey l;
+      working = part 112 320 l;
+    }
+
+-- layout 1, then the fields in the record's order
+unfoldable pub usedBody : Fields → List ℕ
+usedBody f =
+    bytesOf 2 1 ++ (bytesOf 2 (f .number) ++ (bytesOf 2 (f .method-number) ++ (bytesOf 2 (f .valid-mask) ++ (bytesOf 4 (f .tag) ++
+    (bytesOf 4 (f .step-number) ++ (f .name ++ (f .auth ++ (f .generation ++ (f .next-auth ++ (f .next-generation ++ f .working))))))))))
+
+unfoldable pub usedRecord : Fields → List ℕ
+usedRecord f = seal (patch blank 0 (usedBody f))
+
+-- a unit as it is built: mask 0, step 0, the rest as asked, no next pair and no working key
+abbrev pub built : ℕ → ℕ → ℕ → List ℕ → List ℕ → List ℕ → Fields
+built u m t id auth gen =
+    record {
+      number = u;
+      method-number = m;
+      valid-mask = 0;
+      tag = t;
+      step-number = 0;
+      name = id;
+      auth = auth;
+      generation = gen;
+      next-auth = replicate 20 0;
+      next-generation = replicate 20 0;
+      working = replicate 320 0;
+    }
