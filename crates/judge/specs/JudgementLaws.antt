@@ -7,9 +7,9 @@ use Prim.Native.Nat.{ℕ, _+_, _-_, _/_, _%_, _^_, _≤_, _<_}
 use native.Mathlib.Omega.{arith}
 use lib.Dec.{eqb, ltb}
 use lib.ListN.{length, getD, take, drop}
-use borrow.Author.Tests.{le-ltb, ltb-false, eq-eqb, eqb-true, eqb-false, not-false}
+use borrow.Author.Tests.{le-ltb, ltb-false, eq-eqb, eqb-true, eqb-false, not-false, not-true}
 use Rattle.choice.specs.Choice.{pick, both, either}
-use Rattle.choice.specs.ChoiceLaws.{either-false, either-right, pick-holds}
+use Rattle.choice.specs.ChoiceLaws.{either-false, either-right, pick-holds, both-true}
 use Rattle.model.specs.Rows.{listed, byPage, needOf, isUnknown, isOpenRow, isMaster}
 use Rattle.model.specs.RowLaws.{listed-by-need}
 use Rattle.model.specs.Codes.{cdbLen, legalLen}
@@ -114,7 +114,7 @@ known-here : (b t u v : Bool) → either b (not u) ≡ true → both b (either t
 known-here true t u v h k = either-false u v (either-false t (either u v) k .1) .0
 known-here false t u v h k = not-true-false u h
 
--- no entry means unknown, and unknown is turned away: a command that is empty, or whose code or page no row has, is refused by 2, 3 or 4
+-- no entry means unknown, and unknown is turned away: a command that is empty, or whose code or page no row has, is refused by 2 or 4
 pub unlisted-refused : (c : List ℕ) → NoneApply (codeTests c) → NoneApply (protocolTests c) → isUnlisted c ≡ false
 unfolding codeTests protocolTests wrongProtocol isUnlisted needFor
 unlisted-refused c code protocol =
@@ -160,20 +160,20 @@ ruled-guarded own c rules guarded = rw (guarded, rules) (bare-off (isBare c))
     bare-off true = refl
     bare-off false = refl
 
--- where CAPKEY rules, a bare command that doesn't skip 6 to 15
+-- a bare command that doesn't skip 6 to 15: CAPKEY rules
 bare-ruled : (o r : Bool) → either o (both true (not r)) ≡ false → r ≡ true
 bare-ruled true r e = cc
 bare-ruled false true e = refl
 bare-ruled false false e = sym e
 
--- ---- 15 is judged exactly where `checkJudged` says: where it does not, the token has no part in the reason
+-- ---- whether 15 is judged: where `checkJudged` says so, nothing before it refuses, and where not, the token has no part in the reason
 
 -- whatever stands behind tests that refuse
 behind-refusal : (xs ys zs : List Test) → named xs ≡ true → (first xs ≡ 0 → ⊥) → first (xs ++ ys) ≡ first (xs ++ zs)
 behind-refusal xs ys zs h n =
     first-append xs ys h ∙ sym (else-first (first xs) (first ys) n) ∙ else-first (first xs) (first zs) n ∙ sym (first-append xs zs h)
 
-module _ (s : Seen) (c : List ℕ) (clock : ℕ) (off : checkJudged s c clock ≡ false) (t₁ t₂ : List ℕ) where
+module _ (s : Seen) (c : List ℕ) (clock : ℕ) (t₁ t₂ : List ℕ) where
   abbrev before : List Test
   before = earlierTests s c ++ (protocolTests c ++ credentialTests (s .own) (s .keys) c clock)
 
@@ -202,9 +202,18 @@ module _ (s : Seen) (c : List ℕ) (clock : ℕ) (off : checkJudged s c clock �
   by-rules true false er eb e k =
       ap first (whole-list t₁ k) ∙ behind-refusal before _ _ before-named (eqb-false (first before) 0 eb) ∙ ap first (sym (whole-list t₂ k))
 
-  pub unjudged-token : openReason s c t₁ clock ≡ openReason s c t₂ clock
+  pub judged-value : checkJudged s c clock ≡ true
+      → openReason s c t₁ clock ≡ first (valueTests (rulesFor (s .own) c) (s .keys) (isMaster (needFor c)) (isChange c) (descriptorOf c) (checkValueOf c) t₁ ++ pageTests (s .keys) c)
+  unfolding checkJudged openReason value
+  judged-value on =
+      let p = both-true _ (eqb (first before) 0) on in
+      let q = both-true (rulesFor (s .own) c) (not (skipsGuard (s .own) c)) (p .0) in
+      ap first (whole-list t₁ (not-true (skipsGuard (s .own) c) (q .1)))
+      ∙ sym (second-asked before _ before-named 0 (sym (eqb-true (first before) 0 (p .1))) refl _ refl)
+
+  pub unjudged-token : checkJudged s c clock ≡ false → openReason s c t₁ clock ≡ openReason s c t₂ clock
   unfolding checkJudged openReason
-  unjudged-token = by-skip (skipsGuard (s .own) c) refl off
+  unjudged-token off = by-skip (skipsGuard (s .own) c) refl off
     where
       by-skip : (k : Bool) → skipsGuard (s .own) c ≡ k → both (both (rulesFor (s .own) c) (not k)) (eqb (first before) 0) ≡ false
           → openReason s c t₁ clock ≡ openReason s c t₂ clock

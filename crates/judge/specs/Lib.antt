@@ -12,3 +12,4 @@ pub mod FaultLaws
 pub mod TestLaws
 pub mod JudgementLaws
 pub mod CheckedLaws
+pub mod AcceptedLaws

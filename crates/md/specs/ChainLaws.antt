@@ -3,7 +3,6 @@ use Prim.Native.Nat.{ℕ, zero, suc, _+_, _-_, _*_, _/_, _%_, _≤_}
 use mathlib.Core.Path.{_≡_, refl, sym, ap, ap₂, _∙_}
 use mathlib.Core.List.{List, _++_}
 use native.Mathlib.Omega.{arith}
-use native.Mathlib.Numerals.{one-add}
 use native.Mathlib.Nat.{suc-add, zero-add}
 use lib.ListN.{length, take, drop, length-drop}
 use lib.Seq.{drop-drop, take-all, take-append-le, drop-append-le}
@@ -25,11 +24,6 @@ module _ {S : Type 0} (f : S → List ℕ → S) where
   pub absorb-last : (n : ℕ) (s : S) (m : List ℕ) → absorb f (n + 1) s m ≡ f (absorb f n s m) (take 64 (drop (n * 64) m))
   unfolding absorb
   absorb-last n s m = absorb-add n 1 s m
-
-  -- the first of 1 + n blocks
-  pub absorb-first : (n : ℕ) (s : S) (m : List ℕ) → absorb f (1 + n) s m ≡ absorb f n (f s (take 64 m)) (drop 64 m)
-  unfolding absorb
-  absorb-first n s m = rw one-add refl
 
   -- a message that is one block
   pub absorb-block : (s : S) (b : List ℕ) → length b ≡ 64 → absorb f (length b / 64) s b ≡ f s b

@@ -1,11 +1,12 @@
 -- Laws of the padding: it is the standard's, it makes whole blocks, and what is written of it byte by byte is it.
-use Prim.Native.Nat.{ℕ, zero, suc, _+_, _-_, _*_, _/_, _%_, _^_, _≤_, _<_}
+use Prim.Native.Nat.{ℕ, suc, _+_, _-_, _*_, _/_, _%_, _^_, _≤_, _<_}
 use mathlib.Core.Path.{_≡_, refl, sym, ap, ap₂, _∙_}
 use mathlib.Core.List.{List, _∷_, _++_, append-assoc}
 use native.Mathlib.Omega.{arith}
 use native.Mathlib.Numerals.{add-one}
 use lib.ListN.{length, getD, set, take, drop, replicate, length-append, length-replicate, replicate-append-replicate}
 use lib.Seq.{length-take-le, take-all, take-at, take-append-add, drop-at, set-at, sets, sets-eq, length-sets, paste, paste-suc}
+use Rattle.wire.specs.NumberLaws.{bytes-length}
 use Rattle.words.specs.Words.{bytes32}
 use Rattle.md.specs.Padding.{zerosFor, lengthBlock, padding, padded, blockCount}
 
@@ -19,19 +20,11 @@ pub zeros-least : (n k : ℕ) → (n * 8 + 1 + k) % 512 ≡ 448 → 7 + zerosFor
 unfolding zerosFor
 zeros-least n k e = omega arith
 
-pub zeros-lt : (n : ℕ) → zerosFor n < 64
-unfolding zerosFor
-zeros-lt n = omega arith
-
 -- ---- whole blocks, and how many
 
-four : (x : ℕ) → length (bytes32 x) ≡ 4
-unfolding bytes32
-four x = refl
-
 pub padded-length : (m : List ℕ) → length (padded m) ≡ length m + (zerosFor (length m) + 9)
-unfolding padded padding lengthBlock bytes32
-padded-length m = simp (length-append, length-replicate) (omega arith)
+unfolding padded padding lengthBlock
+padded-length m = simp (length-append, length-replicate, bytes-length) (omega arith)
 
 pub padded-whole : (m : List ℕ) → length (padded m) % 64 ≡ 0
 unfolding zerosFor
@@ -101,9 +94,9 @@ low-word n = omega arith
 -- a word stored at i, and what stands up to its end
 stored-front : (l : List ℕ) (i x : ℕ) → i + 4 ≤ length l → take (i + 4) (sets l i (bytes32 x)) ≡ take i l ++ bytes32 x
 stored-front l i x h =
-    let e : i + length (bytes32 x) ≡ i + 4 = ap (λ (y : ℕ). i + y) (four x) in
+    let four : length (bytes32 x) ≡ 4 = bytes-length 4 x in
     let le : length (take i l ++ bytes32 x) ≡ i + 4 =
-    length-append (take i l) (bytes32 x) ∙ ap₂ (λ (y z : ℕ). y + z) (length-take-le i l (omega arith)) (four x) in
+    length-append (take i l) (bytes32 x) ∙ ap₂ (λ (y z : ℕ). y + z) (length-take-le i l (omega arith)) four in
     ap (take (i + 4)) (sets-eq (bytes32 x) l i (omega arith))
     ∙ take-at (take i l ++ bytes32 x) _ (i + 4) le
 

@@ -1,6 +1,6 @@
 -- What document 01's number of an answer says of it ("What a call gets and gives"): whether it is GOOD, whether it is final, and the values that
 -- a caller reads off.
-use mathlib.Core.Bool.{Bool, false}
+use mathlib.Core.Bool.{Bool, true, false}
 use Prim.Native.Nat.{ℕ}
 use lib.Dec.{eqb}
 use lib.ListN.{getD}
@@ -16,15 +16,23 @@ isNumberA n (H m) = false
 abbrev pub isA : ℕ → Answer → Bool
 isA n a = isNumberA n (paperOf a .no)
 
+abbrev pub isNumberH : No → Bool
+isNumberH (A m) = false
+isNumberH (H m) = true
+
+-- refused for its form: H1 to H5
+abbrev pub isMalformed : Answer → Bool
+isMalformed a = isNumberH (paperOf a .no)
+
 -- GOOD, status 00h: A0, handled here, and A2, to be run by medium or crypto block
 abbrev pub isGood : Answer → Bool
 isGood a = either (isA 0 a) (isA 2 a)
 
--- A0, A2 and A3 are final: each is the one answer to a command
+-- A0, A2 and A3 are final: to an open or a close, the one answer to its command
 abbrev pub isFinal : Answer → Bool
 isFinal a = either (isGood a) (isA 3 a)
 
--- CHECK CONDITION: neither the medium nor the crypto block gets the command, and no record changes
+-- CHECK CONDITION: neither the medium nor the crypto block gets the command
 abbrev pub isRefused : Answer → Bool
 isRefused a = isA 3 a
 

@@ -1,11 +1,11 @@
 -- The parameter lists of the Out pages (document 01, "Pages"): the fields of a list d, and what is wrong with one.
-use mathlib.Core.Bool.{Bool, false, not}
+use mathlib.Core.Bool.{Bool, not}
 use mathlib.Core.List.{List}
 use Prim.Native.Nat.{ℕ, _-_}
 use lib.Dec.{eqb, ltb}
 use Rattle.choice.specs.Choice.{pick, either}
 use Rattle.wire.specs.Bytes.{part, number}
-use Rattle.model.specs.Protocol.{setAttributes, seedExchange, setKey}
+use Rattle.model.specs.Protocol.{setAttributes, seedExchange, setKey, changeMaster}
 use Rattle.model.specs.Totals.{totalOf}
 
 -- every list: page code, page length
@@ -46,13 +46,13 @@ agreed d = part 8 256 d
 unfoldable pub wrongExchange : List ℕ → Bool
 wrongExchange d = either (not (eqb (group d) 0x000E)) (not (eqb (number 2 6 d) 0))
 
--- Change 4: 0015h, 0000h
+-- Change 4: 0015h, 0000h; any other page is wrong
 unfoldable pub wrongFields : ℕ → List ℕ → Bool
 wrongFields page d =
     pick (eqb page setAttributes) (wrongAttributes d)
     (pick (eqb page setKey) (wrongKey d)
     (pick (eqb page seedExchange) (wrongExchange d)
-    false))
+    (not (eqb page changeMaster))))
 
 -- 19: page code, page length, a field or a named zero wrong; the page length counts what follows it
 unfoldable pub wrongList : ℕ → List ℕ → Bool

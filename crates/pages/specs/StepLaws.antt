@@ -9,7 +9,7 @@ use Rattle.hmac.specs.Hmac.{hmac, bySha1}
 use Rattle.seal.specs.Seal.{seal}
 use Rattle.units.specs.Unit.{mask, identifier, genKey, nextAuthKey, nextGenKey}
 use Rattle.units.specs.Unit.{withMask, withStep, withPair, withNextPair, withWorkingKey, withoutNextAndWorking}
-use Rattle.pages.specs.OutLaws.{part-length}
+use Rattle.units.specs.UnitLaws.{identifier-length}
 use Rattle.pages.specs.Effects.{withBit, workingKeySet, flipped, lastFlipped, nextAuth, nextGen, exchanged, changed}
 
 -- ---- the last byte's lowest bit
@@ -27,10 +27,6 @@ flip-behind [] b h = refl
 flip-behind (x ∷ []) [] h = absurd (omega arith)
 flip-behind (x ∷ []) (y ∷ ys) h = refl
 flip-behind (x ∷ z ∷ zs) b h = ap (λ (l : List ℕ). x ∷ l) (flip-behind (z ∷ zs) b h)
-
-pub identifier-length : (rec : List ℕ) → length rec ≡ 512 → length (identifier rec) ≡ 16
-unfolding identifier
-identifier-length rec full = part-length 16 16 rec (omega arith)
 
 pub next-auth : (value rec : List ℕ) → length rec ≡ 512
     → nextAuth value rec ≡ hmac bySha1 (genKey rec) (value ++ lastFlipped (identifier rec))

@@ -76,7 +76,7 @@ fn wrong_exchange(group: u32, zero: u32) -> bool
     choice::or(group != 0x000E, zero != 0)
 }
 
-// What stands behind page code and length; Change has nothing there.
+// What stands behind page code and length; Change has nothing there, and any other page is wrong.
 fn wrong_fields(page: u32, f: Front) -> bool
     ensures { λ r. ⌜ ((d : List ℕ) → FrontOf page d f → r ≡ wrongFields page d) ⌝ }
 {
@@ -84,7 +84,7 @@ fn wrong_fields(page: u32, f: Front) -> bool
         model::SET_ATTRIBUTES => wrong_attributes(f.first, f.third),
         model::SET_KEY => wrong_key(KeyVersion(f.first), f.second),
         model::SEED_EXCHANGE => wrong_exchange(f.first, f.second),
-        _ => false,
+        _ => page != model::CHANGE_MASTER,
     }
 }
 

@@ -3,13 +3,12 @@ use mathlib.Core.Path.{_≡_, refl, ap, _∙_}
 use mathlib.Core.Bool.{Bool, true, false}
 use mathlib.Core.Option.{none, some}
 use mathlib.Core.List.{List, [], _∷_, _++_}
-use Prim.{Unit}
 use Prim.Native.Nat.{ℕ}
 use lib.Dec.{eqb}
 use Rattle.choice.specs.Choice.{both, pick}
 use Rattle.model.specs.Protocol.{seedExchange, setKey, changeMaster}
 use Rattle.model.specs.Rows.{isMaster, isOpenRow}
-use Rattle.model.specs.Answers.{isFinal, isRefused}
+use Rattle.model.specs.Answers.{isRefused, isMalformed}
 use Rattle.model.specs.declared.Answer.{Answer}
 use Rattle.units.specs.Unit.{unitAt, keySetOf}
 use Rattle.judge.specs.Command.{pageOf, needFor, isChange, descriptorOf}
@@ -18,20 +17,10 @@ use Rattle.judge.specs.Judgement.{rulesFor}
 use Rattle.pages.specs.Out.{newVersion, seed, agreed}
 use Rattle.calls.specs.Outcome.{Tables}
 use Rattle.calls.specs.Whole.{Asked}
-use Rattle.runs.specs.Run.{Call, Event, Meets, Ran, SoundTables}
+use Rattle.runs.specs.Run.{Call, Event, Meets, Ran, SoundTables, isCommand}
 use Rattle.runs.specs.Ledger.{ledgerOf, starts, Done, commandOf, dones}
-use Rattle.runs.specs.History.{KeySet, startKeys, versionSet, seedExchanged, masterChanged, keyCommand, isKeyCommand, history, keySaid}
-use Rattle.runs.specs.GoodChecked.{isCommand}
+use Rattle.runs.specs.History.{KeySet, startKeys, versionSet, seedExchanged, masterChanged, keyCommand, isKeyCommand, history, keySaid, NoneSets}
 use Rattle.runs.specs.Engineer.{keyless-refused}
-
--- is it a GOOD Set Key of version v in unit u's key set?
-abbrev pub setsVersion : List ℕ → ℕ → ℕ → Done → Bool
-setsVersion units u v x = both (isKeyCommand units u x) (both (eqb (pageOf (x .what .command)) setKey) (eqb v (newVersion (x .sent))))
-
--- none of them is
-abbrev pub NoneSets : List ℕ → ℕ → ℕ → List Done → Type 0
-NoneSets units u v [] = Unit
-NoneSets units u v (x ∷ xs) = (setsVersion units u v x ≡ false) × NoneSets units u v xs
 
 history-append : (units : List ℕ) (u : ℕ) (xs ys : List Done) (k : KeySet) → history units u k (xs ++ ys) ≡ history units u (history units u k xs) ys
 history-append units u [] ys k = refl
@@ -78,18 +67,18 @@ working-said k master change v e = rw e
 -- of the command's version there since: a guarded command of a working row is refused where CAPKEY rules
 pub ended-by-change :
     (t : Tables) (es : List Event) (m : Tables) (sound : SoundTables t) (ran : Ran t es m) (k : Call) (a : Answer) (r : List ℕ) (n : Tables)
-    (meets : Meets m k a r n) (command : isCommand k ≡ true) (final : isFinal a ≡ true) (x : Asked)
+    (meets : Meets m k a r n) (command : isCommand k ≡ true) (formed : isMalformed a ≡ false) (x : Asked)
     (about : commandOf (ledgerOf (starts (t .slots)) es) k ≡ some x) (xs : List Done) (y : Done) (ys : List Done)
     → rulesFor (unitAt (x .unit) (m .units)) (x .command) ≡ true → isOpenRow (needFor (x .command)) ≡ false → isMaster (needFor (x .command)) ≡ false
     → dones (starts (t .slots)) es ≡ xs ++ (y ∷ ys)
     → isKeyCommand (t .units) (x .unit) y ≡ true → pageOf (y .what .command) ≡ changeMaster
     → NoneSets (t .units) (x .unit) (keyVersion (descriptorOf (x .command))) ys
     → isRefused a ≡ true
-ended-by-change t es m sound ran k a r n meets command final x about xs y ys rules guarded working split good page unset =
+ended-by-change t es m sound ran k a r n meets command formed x about xs y ys rules guarded working split good page unset =
     let u = x .unit in
     let v = keyVersion (descriptorOf (x .command)) in
     let start = startKeys (keySetOf (t .units) u) in
-    keyless-refused t es m sound ran k a r n meets command final x about rules guarded
+    keyless-refused t es m sound ran k a r n meets command formed x about rules guarded
     (working-said (history (t .units) u start (dones (starts (t .slots)) es)) (isMaster (needFor (x .command))) (isChange (x .command)) v working
     ∙ ap (λ (zs : List Done). history (t .units) u start zs .working v) split
     ∙ changed-none (t .units) u v start xs y ys good page unset)

@@ -1,5 +1,6 @@
 -- What each step of a run answers, by the ledger: at any step of any run from sound tables, every call gets the answer and leaves the reply that
--- `expected` says, from the unit table and the ledger alone; and whatever was parked stays in the ledger until its own close, an abort or a reset.
+-- `expected` says, from the unit table and the ledger alone; and whatever was parked stays in the ledger until its own close, abort or a
+-- reset is answered finally.
 use mathlib.Core.Path.{_≡_, refl, sym, ap, _∙_, subst}
 use mathlib.Core.Logic.{_⊎_, inl, inr}
 use mathlib.Core.Bool.{Bool, true, false}
@@ -12,9 +13,9 @@ use lib.Dec.{eqb, leb}
 use lib.ListN.{length}
 use borrow.Author.Tests.{eqb-true, eq-eqb, leb-true}
 use Rattle.choice.specs.Choice.{both, pick}
-use Rattle.choice.specs.ChoiceLaws.{pick-cases}
+use Rattle.choice.specs.ChoiceLaws.{pick-cases, both-true}
 use Rattle.wire.specs.Bytes.{patch}
-use Rattle.model.specs.Answers.{isA, isFinal, slotIn}
+use Rattle.model.specs.Answers.{isA, isFinal, slotIn, isMalformed}
 use Rattle.model.specs.AnswerLaws.{final-not-parked}
 use Rattle.model.specs.declared.SlotNo.{SlotNo}
 use Rattle.model.specs.declared.Answer.{Answer}
@@ -28,14 +29,19 @@ use Rattle.calls.specs.Outcome.{leaves, Tables, tables, Lent, lent, Outcome, gi
 use Rattle.calls.specs.OutcomeLaws.{one-table, one-outcome, lengths-right}
 use Rattle.calls.specs.Slots.{holds, abortOut, resetOut}
 use Rattle.calls.specs.Whole.{Asked, whole}
-use Rattle.calls.specs.Open.{parks, parkedIn}
+use Rattle.calls.specs.Open.{parks, parkedIn, reasonAtOpen}
 use Rattle.calls.specs.Close.{heldBy}
 use Rattle.runs.specs.WholeLaws.{whole-final}
-use Rattle.runs.specs.Run.{Call, opens, closes, aborts, resets, Event, Meets, Ran, SoundTables}
-use Rattle.runs.specs.Ledger.{Ledger, put, after, ledgerOf, starts, viewBy, view, toView, Agrees, Fits}
-use Rattle.runs.specs.Expected.{Expected, says, isVacant, vacantFrom, leastVacant, entryAt, parkedAt, openExpected, closeExpected, abortedAs, expected}
+use Rattle.runs.specs.Run.{Call, opens, closes, aborts, resets, Event, Meets, Ran, SoundTables, isCommand}
+use Rattle.runs.specs.Ledger.{Ledger, put, after, ledgerOf, starts, viewBy, view, toView, Agrees, Fits, Ends, commandOf, clockOf}
+use Rattle.runs.specs.Expected.{Expected, says, isVacant, vacantFrom, leastVacant, entryAt, parkedAt, openExpected, closeExpected, abortedAs, expected, closedAs}
 use Rattle.runs.specs.StepLaws.{open-by, close-by, ledger-holds}
 use Rattle.runs.specs.Sequence.{run-fits}
+use Rattle.model.specs.Codes.{dataOut}
+use Rattle.judge.specs.Command.{codeOf}
+
+no-true : {A : Type 0} → true ≡ false → A
+no-true e = let o : _≡_ {A = ℕ} 0 1 = cc in absurd (omega arith)
 
 -- ---- slots by the ledger
 
@@ -152,14 +158,40 @@ module _ (t : Tables) (ledger : Ledger) (fit : Fits t ledger) where
   call-as (aborts s) a r n m = abort-as s a r n m
   call-as resets a r n m = reset-as a r n m
 
--- ---- what is parked stays
+-- ---- A1 and A4 are for commands that nothing refuses
 
--- the call that ends a command in slot i: its close, its abort, or a reset
-abbrev pub Ends : Call → ℕ → Type 0
-Ends (opens k clock reply) i = ⊥
-Ends (closes s d clock reply) i = s ≡ i
-Ends (aborts s) i = s ≡ i
-Ends resets i = Unit
+open-waits : (units : List ℕ) (ledger : Ledger) (k : Asked) (clock : ℕ) (reply : List ℕ) → isFinal (openExpected units ledger k clock reply .answer) ≡ false
+    → isMalformed (openExpected units ledger k clock reply .answer) ≡ false → reasonAtOpen units k clock ≡ 0
+unfolding openExpected
+open-waits units ledger k clock reply =
+    let P : Expected → Type 0 = λ x. isFinal (x .answer) ≡ false → isMalformed (x .answer) ≡ false → reasonAtOpen units k clock ≡ 0 in
+    pick-cases P (eqb (length reply) 512) _ _
+    (λ a. pick-cases P (rightToken (length (k .token))) _ _
+    (λ b. pick-cases P (parks units k clock) _ _
+    (λ p f h. eqb-true _ 0 (both-true (eqb (reasonAtOpen units k clock) 0) (dataOut (codeOf (k .command))) p .0))
+    (λ p f h. no-true (sym (whole-final units k [] clock) ∙ f)))
+    (λ b f h. no-true h))
+    (λ a f h. no-true h)
+
+close-ends : (units : List ℕ) (ledger : Ledger) (s : ℕ) (d : List ℕ) (clock : ℕ) (reply : List ℕ)
+    → isMalformed (closeExpected units ledger s d clock reply .answer) ≡ false → isFinal (closeExpected units ledger s d clock reply .answer) ≡ true
+unfolding closeExpected
+close-ends units ledger s d clock reply =
+    pick-cases (λ (x : Expected). isMalformed (x .answer) ≡ false → isFinal (x .answer) ≡ true) (eqb (length reply) 512) _ _
+    (λ a. by-entry (entryAt ledger s)) (λ a h. no-true h)
+  where
+    by-entry : (o : Option Asked) → isMalformed (closedAs units d clock reply o .answer) ≡ false → isFinal (closedAs units d clock reply o .answer) ≡ true
+    by-entry none h = no-true h
+    by-entry (some k) h = whole-final units k d clock
+
+waits : (units : List ℕ) (ledger : Ledger) (k : Call) (x : Asked) → isCommand k ≡ true → commandOf ledger k ≡ some x
+    → isFinal (expected units ledger k .answer) ≡ false → isMalformed (expected units ledger k .answer) ≡ false → reasonAtOpen units x (clockOf k) ≡ 0
+waits units ledger (opens k clock reply) x c e f h = let same : k ≡ x = cc in subst (λ (y : Asked). reasonAtOpen units y clock ≡ 0) same (open-waits units ledger k clock reply f h)
+waits units ledger (closes s d clock reply) x c e f h = no-true (sym (close-ends units ledger s d clock reply h) ∙ f)
+waits units ledger (aborts s) x c e f h = no-true (sym c)
+waits units ledger resets x c e f h = no-true (sym c)
+
+-- ---- what is parked stays
 
 from-least : (n i : ℕ) (ledger : Ledger) (s : SlotNo) → vacantFrom n i ledger ≡ At s → isVacant (ledger (s .0)) ≡ true
 unfolding vacantFrom
@@ -193,9 +225,11 @@ put-other : (ledger : Ledger) (s i : ℕ) (x : Option Asked) (k : Asked) → led
 put-other ledger s i x k h true e = inr (sym (eqb-true i s e))
 put-other ledger s i x k h false e = inl (rw e h)
 
-stays : (b : Bool) (ledger new : Ledger) (i : ℕ) (k : Asked) (E : Type 0) → ledger i ≡ some k → (new i ≡ some k) ⊎ E → (pick b new ledger i ≡ some k) ⊎ E
-stays true ledger new i k E h x = x
-stays false ledger new i k E h x = inl h
+stays : (a : Answer) (b : Bool) → isFinal a ≡ b → (ledger new : Ledger) (i : ℕ) (k : Asked) (E : Type 0) → ledger i ≡ some k → (new i ≡ some k) ⊎ E
+    → (pick b new ledger i ≡ some k) ⊎ (E × (isFinal a ≡ true))
+stays a true q ledger new i k E h (inl x) = inl x
+stays a true q ledger new i k E h (inr e) = inr (e, q)
+stays a false q ledger new i k E h x = inl h
 
 module _ (t : Tables) (ledger : Ledger) (fit : Fits t ledger) (i : ℕ) (x : Asked) (here : ledger i ≡ some x) where
   not-over : (k : Asked) (a : Answer) → (isA 1 a ≡ true → isVacant (ledger (slotIn a)) ≡ true) → (b : Bool) → isA 1 a ≡ b
@@ -211,13 +245,13 @@ module _ (t : Tables) (ledger : Ledger) (fit : Fits t ledger) (i : ℕ) (x : Ask
           let o : _≡_ {A = ℕ} 0 1 = cc in
           absurd (omega arith)
 
-  pub step-keeps : (k : Call) (a : Answer) (r : List ℕ) (n : Tables) → Meets t k a r n → (after ledger k a i ≡ some x) ⊎ Ends k i
+  pub step-keeps : (k : Call) (a : Answer) (r : List ℕ) (n : Tables) → Meets t k a r n → (after ledger k a i ≡ some x) ⊎ (Ends k i × (isFinal a ≡ true))
   step-keeps (opens k clock reply) a r n m =
       let e = call-as t ledger fit (opens k clock reply) a r n m .answer in
       inl (not-over k a (subst (λ (y : Answer). isA 1 y ≡ true → isVacant (ledger (slotIn y)) ≡ true) (sym e) (open-vacant (t .units) ledger k clock reply)) (isA 1 a) refl)
-  step-keeps (closes s d clock reply) a r n m = stays (isFinal a) ledger (put ledger s none) i x (s ≡ i) here (put-other ledger s i none x here (eqb i s) refl)
-  step-keeps (aborts s) a r n m = stays (isFinal a) ledger (put ledger s none) i x (s ≡ i) here (put-other ledger s i none x here (eqb i s) refl)
-  step-keeps resets a r n m = inr tt
+  step-keeps (closes s d clock reply) a r n m = stays a (isFinal a) refl ledger (put ledger s none) i x (s ≡ i) here (put-other ledger s i none x here (eqb i s) refl)
+  step-keeps (aborts s) a r n m = stays a (isFinal a) refl ledger (put ledger s none) i x (s ≡ i) here (put-other ledger s i none x here (eqb i s) refl)
+  step-keeps resets a r n m = stays a (isFinal a) refl ledger (λ j. none) i x Unit here (inr tt)
 
 -- ---- at any step of any run from sound tables
 
@@ -226,5 +260,13 @@ module _ (t : Tables) (es : List Event) (m : Tables) (sound : SoundTables t) (ra
   pub each-step : As (expected (m .units) (ledgerOf (starts (t .slots)) es) k) a r
   each-step = call-as m (ledgerOf (starts (t .slots)) es) (run-fits t es m sound ran) k a r n meets
 
-  pub stays-parked : (i : ℕ) (x : Asked) → ledgerOf (starts (t .slots)) es i ≡ some x → (after (ledgerOf (starts (t .slots)) es) k a i ≡ some x) ⊎ Ends k i
+  -- an open or a close that is neither refused for its form nor answered finally is about a command that nothing refuses
+  pub waiting-passes : (x : Asked) → isCommand k ≡ true → commandOf (ledgerOf (starts (t .slots)) es) k ≡ some x → isFinal a ≡ false → isMalformed a ≡ false
+      → reasonAtOpen (m .units) x (clockOf k) ≡ 0
+  waiting-passes x c e f h =
+      let q = each-step .answer in
+      waits (m .units) (ledgerOf (starts (t .slots)) es) k x c e (ap isFinal (sym q) ∙ f) (ap isMalformed (sym q) ∙ h)
+
+  pub stays-parked : (i : ℕ) (x : Asked) → ledgerOf (starts (t .slots)) es i ≡ some x
+      → (after (ledgerOf (starts (t .slots)) es) k a i ≡ some x) ⊎ (Ends k i × (isFinal a ≡ true))
   stays-parked i x here = step-keeps m (ledgerOf (starts (t .slots)) es) (run-fits t es m sound ran) i x here k a r n meets

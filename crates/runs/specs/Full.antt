@@ -26,7 +26,7 @@ use Rattle.calls.specs.Outcome.{Tables}
 use Rattle.calls.specs.Whole.{Asked, whole}
 use Rattle.calls.specs.Open.{reasonAtOpen, parks}
 use Rattle.runs.specs.WholeLaws.{whole-final}
-use Rattle.runs.specs.Run.{Call, opens, closes, aborts, resets, Event, Meets, Ran, SoundTables}
+use Rattle.runs.specs.Run.{Call, opens, closes, aborts, resets, Event, Meets, Ran, SoundTables, isOpens}
 use Rattle.runs.specs.Ledger.{Ledger, ledgerOf, starts}
 use Rattle.runs.specs.Expected.{Expected, isVacant, vacantFrom, leastVacant, entryAt, parkedAt, closedAs, closeExpected, abortedAs, openExpected, expected, Passes, NoneFree}
 use Rattle.runs.specs.EachStep.{each-step}
@@ -94,12 +94,6 @@ close-not-full units ledger s d clock reply =
 abort-not-full : (o : Option Asked) → isA 4 (abortedAs o) ≡ false
 abort-not-full none = refl
 abort-not-full (some k) = refl
-
-abbrev pub isOpens : Call → Bool
-isOpens (opens k clock reply) = true
-isOpens (closes s d clock reply) = false
-isOpens (aborts s) = false
-isOpens resets = false
 
 only-opens : (units : List ℕ) (ledger : Ledger) (k : Call) → isA 4 (expected units ledger k .answer) ≡ true → isOpens k ≡ true
 only-opens units ledger (opens k clock reply) e = refl

@@ -1,6 +1,6 @@
 -- Demand 3, GOOD means checked: each guarded GOOD on a CAPKEY unit passed every capability check against the records just before that step,
 -- under the key that the starting keys and the GOOD key commands since say was valid. The same for master rows on units of either method.
-use mathlib.Core.Path.{_≡_, refl, sym, ap, _∙_, subst}
+use mathlib.Core.Path.{_≡_, refl, sym, ap, _∙_}
 use mathlib.Core.Bool.{Bool, true, false}
 use mathlib.Core.Option.{Option, none, some}
 use mathlib.Core.List.{List}
@@ -25,7 +25,7 @@ use Rattle.calls.specs.Outcome.{Tables}
 use Rattle.calls.specs.Whole.{Asked, Whole, wholeReason, whole}
 use Rattle.calls.specs.WholeLaws.{close-none}
 use Rattle.runs.specs.WholeLaws.{whole-cases}
-use Rattle.runs.specs.Run.{Call, opens, closes, aborts, resets, Event, Meets, Ran, SoundTables}
+use Rattle.runs.specs.Run.{Call, opens, closes, aborts, resets, Event, Meets, Ran, SoundTables, isCommand}
 use Rattle.runs.specs.Ledger.{Ledger, ledgerOf, starts, commandOf, sentBy, clockOf, dones, finalIn}
 use Rattle.runs.specs.StepLaws.{Stepped, call-step}
 use Rattle.runs.specs.Sequence.{sequence, run-fits}
@@ -57,24 +57,23 @@ good-none units k d clock =
     whole-cases units k d clock (λ (w : Whole). isGood (w .answer) ≡ true → wholeReason units k d clock ≡ 0)
     (λ n e. let z : _≡_ {A = ℕ} 0 1 = cc in absurd (omega arith)) (λ z t e. z) (λ z f r e. z) (λ z f r e. z)
 
-pub good-open : (units : List ℕ) (k : Asked) (d : List ℕ) (clock : ℕ) → isGood (whole units k d clock .answer) ≡ true
+pub good-passes : (units : List ℕ) (k : Asked) (d : List ℕ) (clock : ℕ) → isGood (whole units k d clock .answer) ≡ true
     → openReason (seen units (k .unit)) (k .command) (k .token) clock ≡ 0
-good-open units k d clock good = close-none (seen units (k .unit)) (k .command) (k .token) d clock (good-none units k d clock good) .0
+good-passes units k d clock good = close-none (seen units (k .unit)) (k .command) (k .token) d clock (good-none units k d clock good) .0
 
--- against the table just before it, with a key set that says what the record of the unit's keys says
-whole-checked : (units : List ℕ) (k : Asked) (d : List ℕ) (clock : ℕ) (keys : KeySet) → Says keys (keySetOf units (k .unit))
-    → isGood (whole units k d clock .answer) ≡ true → rulesFor (unitAt (k .unit) units) (k .command) ≡ true → isOpenRow (needFor (k .command)) ≡ false
-    → CheckedBy (unitAt (k .unit) units) keys k clock
-whole-checked units k d clock keys says good rules guarded =
+-- a command that nothing refuses, against the table just before it, with a key set that says what the record of the unit's keys says
+passed-checked : (units : List ℕ) (k : Asked) (clock : ℕ) (keys : KeySet) → Says keys (keySetOf units (k .unit))
+    → openReason (seen units (k .unit)) (k .command) (k .token) clock ≡ 0 → rulesFor (unitAt (k .unit) units) (k .command) ≡ true
+    → isOpenRow (needFor (k .command)) ≡ false → CheckedBy (unitAt (k .unit) units) keys k clock
+passed-checked units k clock keys says passes rules guarded =
     let s = seen units (k .unit) in
     let c = k .command in
-    let none = good-open units k d clock good in
     record {
       key = keyUsed (s .keys) (isMaster (needFor c)) (isChange c) (keyVersion (descriptorOf c));
       valid =
           key-said (s .keys) keys says (isMaster (needFor c)) (isChange c) (keyVersion (descriptorOf c)) (version-small (descriptorOf c))
-          (guarded-key s c (k .token) clock none rules guarded);
-      checks = guarded-checked s c (k .token) clock none rules guarded;
+          (guarded-key s c (k .token) clock passes rules guarded);
+      checks = guarded-checked s c (k .token) clock passes rules guarded;
     }
 
 master-guarded : (n : Need) → isMaster n ≡ true → isOpenRow n ≡ false
@@ -89,17 +88,10 @@ good-final : (a : Answer) → isGood a ≡ true → isFinal a ≡ true
 good-final a e = rw e
 
 -- the command of an open or a close that is answered finally: the step is about exactly one
-pub record Answers (t : Tables) (ledger : Ledger) (k : Call) (a : Answer) : Type 0 where
+pub record FinalAnswer (t : Tables) (ledger : Ledger) (k : Call) (a : Answer) : Type 0 where
   pub what : Asked
   pub about : commandOf ledger k ≡ some what
   pub as-whole : whole (t .units) what (sentBy k) (clockOf k) .answer ≡ a
-
--- is it an open or a close?
-abbrev pub isCommand : Call → Bool
-isCommand (opens k clock reply) = true
-isCommand (closes s d clock reply) = true
-isCommand (aborts s) = false
-isCommand resets = false
 
 one-done : (k : Call) (a : Answer) → isCommand k ≡ true → isFinal a ≡ true → finalIn k a ≡ 1
 one-done (opens k clock reply) a e f = rw f
@@ -108,10 +100,10 @@ one-done (aborts s) a e f = let z : _≡_ {A = ℕ} 0 1 = cc in absurd (omega ar
 one-done resets a e f = let z : _≡_ {A = ℕ} 0 1 = cc in absurd (omega arith)
 
 step-answers : (t : Tables) (ledger : Ledger) (k : Call) (a : Answer) (r : List ℕ) (n : Tables) → Stepped t ledger k a r n → isCommand k ≡ true
-    → isFinal a ≡ true → Answers t ledger k a
+    → isFinal a ≡ true → FinalAnswer t ledger k a
 step-answers t ledger k a r n s e f = by-command (commandOf ledger k) refl
   where
-    by-command : (o : Option Asked) → commandOf ledger k ≡ o → Answers t ledger k a
+    by-command : (o : Option Asked) → commandOf ledger k ≡ o → FinalAnswer t ledger k a
     by-command none q =
         let z : _≡_ {A = ℕ} 0 1 = rw (f, q) at (s .counted) ∙ one-done k a e f in
         absurd (omega arith)
@@ -124,26 +116,26 @@ module _ (t : Tables) (es : List Event) (m : Tables) (sound : SoundTables t) (ra
   abbrev ledger : Ledger
   ledger = ledgerOf (starts (t .slots)) es
 
-  pub final-answers : isCommand k ≡ true → isFinal a ≡ true → Answers m (ledgerOf (starts (t .slots)) es) k a
+  pub final-answers : isCommand k ≡ true → isFinal a ≡ true → FinalAnswer m (ledgerOf (starts (t .slots)) es) k a
   final-answers e f = step-answers m ledger k a r n (call-step m ledger (run-fits t es m sound ran) k a r n meets) e f
 
   says-before : (u : ℕ) → Says (keysBefore t es u) (keySetOf (m .units) u)
   says-before u =
-      says-run (t .units) (dones (starts (t .slots)) es) (t .units) (m .units) (sound .units-length) u (startKeys (keySetOf (t .units) u)) (says-start (keySetOf (t .units) u))
-      (sequence t es m sound ran .singly)
+      says-run (t .units) (dones (starts (t .slots)) es) (t .units) (m .units) (sound .units-length) u (startKeys (keySetOf (t .units) u))
+      (says-start (keySetOf (t .units) u)) (sequence t es m sound ran .singly)
 
-  -- wherever CAPKEY rules
-  pub ruled-checked : (x : Asked) → commandOf (ledgerOf (starts (t .slots)) es) k ≡ some x → isCommand k ≡ true → isGood a ≡ true
+  -- wherever CAPKEY rules, a guarded command that nothing refuses passed every check
+  pub ruled-checked : (x : Asked) → openReason (seen (m .units) (x .unit)) (x .command) (x .token) (clockOf k) ≡ 0
       → rulesFor (unitAt (x .unit) (m .units)) (x .command) ≡ true → isOpenRow (needFor (x .command)) ≡ false
       → CheckedBy (unitAt (x .unit) (m .units)) (keysBefore t es (x .unit)) x (clockOf k)
-  ruled-checked x about e good rules guarded =
+  ruled-checked x passes rules guarded = passed-checked (m .units) x (clockOf k) (keysBefore t es (x .unit)) (says-before (x .unit)) passes rules guarded
+
+  -- the command of an open or close that is answered GOOD is refused for nothing
+  good-none-refuses : (e : isCommand k ≡ true) (good : isGood a ≡ true)
+      → (let x = final-answers e (good-final a good) .what in openReason (seen (m .units) (x .unit)) (x .command) (x .token) (clockOf k) ≡ 0)
+  good-none-refuses e good =
       let w = final-answers e (good-final a good) in
-      let same : w .what ≡ x = some-same (w .what) x (sym (w .about) ∙ about) in
-      let g : isGood (whole (m .units) x (sentBy k) (clockOf k) .answer) ≡ true = ap isGood (subst (λ (y : Asked). whole (m .units) y (sentBy k) (clockOf k) .answer ≡ a) same (w .as-whole)) ∙ good in
-      whole-checked (m .units) x (sentBy k) (clockOf k) (keysBefore t es (x .unit)) (says-before (x .unit)) g rules guarded
-    where
-      some-same : (p q : Asked) → some p ≡ some q → p ≡ q
-      some-same p q e = cc
+      good-passes (m .units) (w .what) (sentBy k) (clockOf k) (ap isGood (w .as-whole) ∙ good)
 
   -- each open or close answered GOOD is about one command, and where it is guarded, on a unit that was CAPKEY just before the step, it passed
   -- every check
@@ -156,7 +148,7 @@ module _ (t : Tables) (es : List Event) (m : Tables) (sound : SoundTables t) (ra
         w .what,
         w .about,
         λ capkey guarded.
-            ruled-checked (w .what) (w .about) e good (capkey-rules (unitAt (w .what .unit) (m .units)) (w .what .command) capkey) guarded,
+            ruled-checked (w .what) (good-none-refuses e good) (capkey-rules (unitAt (w .what .unit) (m .units)) (w .what .command) capkey) guarded,
       )
 
   -- and so did each master row, on a unit of either method: under the authentication master key, Change under the next one
@@ -168,5 +160,6 @@ module _ (t : Tables) (es : List Event) (m : Tables) (sound : SoundTables t) (ra
         w .what,
         w .about,
         λ master.
-            ruled-checked (w .what) (w .about) e good (master-rules (unitAt (w .what .unit) (m .units)) (w .what .command) master) (master-guarded (needFor (w .what .command)) master),
+            ruled-checked (w .what) (good-none-refuses e good) (master-rules (unitAt (w .what .unit) (m .units)) (w .what .command) master)
+            (master-guarded (needFor (w .what .command)) master),
       )

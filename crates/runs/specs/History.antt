@@ -22,6 +22,7 @@ use Rattle.calls.specs.Outcome.{Tables}
 use Rattle.calls.specs.Whole.{Asked}
 use Rattle.runs.specs.Run.{Event}
 use Rattle.runs.specs.Ledger.{Done, dones, starts}
+use Prim.{Unit}
 
 pub record KeySet : Type 0 where
   pub name : List ℕ
@@ -106,6 +107,15 @@ history units u k (x ∷ xs) = history units u (pick (isKeyCommand units u x) (k
 -- the keys of unit u's key set after the events es from the tables t
 abbrev pub keysBefore : Tables → List Event → ℕ → KeySet
 keysBefore t es u = history (t .units) u (startKeys (keySetOf (t .units) u)) (dones (starts (t .slots)) es)
+
+-- is it a GOOD Set Key of version v in unit u's key set?
+abbrev pub setsVersion : List ℕ → ℕ → ℕ → Done → Bool
+setsVersion units u v x = both (isKeyCommand units u x) (both (eqb (pageOf (x .what .command)) setKey) (eqb v (newVersion (x .sent))))
+
+-- none of them is
+abbrev pub NoneSets : List ℕ → ℕ → ℕ → List Done → Type 0
+NoneSets units u v [] = Unit
+NoneSets units u v (x ∷ xs) = (setsVersion units u v x ≡ false) × NoneSets units u v xs
 
 -- the key that the history says is valid for a command: a working row takes the version's; a master row wants version 0 and the
 -- authentication master key; Change wants version 0, a pending exchange and the next authentication master key

@@ -1,22 +1,22 @@
--- What each answer leaves, as document 01's table has it ("What a call gets and gives"): of an open and of a close, by the answer's number.
+-- What each answer leaves, as document 01's table has it ("What a call gets and gives"): of each call, by the answer's number.
 use mathlib.Core.Path.{_≡_, refl, sym, ap, ap₂, _∙_, subst}
 use mathlib.Core.Bool.{true, false}
 use mathlib.Core.List.{List, []}
 use Prim.Native.Nat.{ℕ}
 use native.Mathlib.Omega.{arith}
-use lib.Dec.{eqb}
+use lib.Dec.{eqb, leb}
 use lib.ListN.{length, drop}
 use lib.Seq.{drop-at}
 use borrow.Author.Tests.{eqb-true, ne-eqb}
-use Rattle.choice.specs.Choice.{pick}
-use Rattle.choice.specs.ChoiceLaws.{both-true}
+use Rattle.choice.specs.Choice.{pick, both}
+use Rattle.choice.specs.ChoiceLaws.{both-true, either-false, pick-cases}
 use Rattle.wire.specs.Bytes.{patch}
 use Rattle.model.specs.Codes.{dataOut}
 use Rattle.model.specs.CodeLaws.{legal-small}
 use Rattle.model.specs.Paper.{No, A, H, paperOf}
-use Rattle.model.specs.Answers.{isNumberA, isA, isFinal, countIn, slotIn}
+use Rattle.model.specs.Answers.{isNumberA, isA, isGood, isFinal, countIn, slotIn}
 use Rattle.model.specs.declared.Answer.{Answer}
-use Rattle.model.specs.declared.Answer.the-variants.{Parked, Full, H1, H2, H3}
+use Rattle.model.specs.declared.Answer.the-variants.{Parked, Full, H1, H2, H3, Good, H5}
 use Rattle.units.specs.Unit.{unitAt, keeperOf}
 use Rattle.slots.specs.Slot.{slotAt, slotUnit, rightToken, lowestFree, freed}
 use Rattle.slots.specs.SlotLaws.{token-is}
@@ -27,9 +27,10 @@ use Rattle.slots.specs.declared.Found.the-variants.{At, Nothing}
 use Rattle.judge.specs.Command.{codeOf}
 use Rattle.judge.specs.Seen.{seen}
 use Rattle.judge.specs.JudgementLaws.{open-passed}
-use Rattle.calls.specs.Outcome.{Lent, lent, tables, Outcome, gives, withSlots, onSlots, rightlyLent}
-use Rattle.calls.specs.OutcomeLaws.{one-outcome, lengths-are}
-use Rattle.calls.specs.Slots.{holds}
+use Rattle.calls.specs.Outcome.{Lent, lent, tables, Outcome, gives, withSlots, onSlots, rightlyLent, TableOutcome, leaves}
+use Rattle.calls.specs.OutcomeLaws.{one-outcome, lengths-are, one-table}
+use Rattle.calls.specs.Build.{buildOut}
+use Rattle.calls.specs.Slots.{holds, abortOut, resetOut}
 use Rattle.calls.specs.Whole.{Asked, Whole, whole}
 use Rattle.calls.specs.WholeLaws.{patch-none}
 use Rattle.calls.specs.Open.{reasonAtOpen, parks, parkedIn, openOut}
@@ -171,3 +172,41 @@ module _ (l : Lent) (s : ℕ) (d : List ℕ) (clock : ℕ) where
 pub close-keeps : (l m : Lent) (s : ℕ) (a : Answer) → LeftByClose l m s a → isA 0 a ≡ false → isFinal a ≡ true
     → m ≡ withSlots (freed s (l .tabled .slots)) l
 close-keeps l m s a left not-0 final = ap₂ lent (ap₂ tables (left .units not-0) (rw final at (left .slots))) (left .reply)
+
+-- H1 and H3 to a close leave every byte
+pub close-form-keeps : (l m : Lent) (s : ℕ) (a : Answer) → LeftByClose l m s a → isFinal a ≡ false → m ≡ l
+close-form-keeps l m s a left unended =
+    let not-0 = either-false (isA 0 a) (isA 2 a) (either-false (isGood a) (isA 3 a) unended .0) .0 in
+    ap₂ lent (ap₂ tables (left .units not-0) (rw unended at (left .slots))) (left .reply)
+
+-- ---- build, abort and reset: every answer but A0 leaves the table as it came
+
+abbrev KeepsTable : List ℕ → TableOutcome → Type 0
+KeepsTable table o = (a : Answer) (x : List ℕ) → leaves a x ≡ o → isA 0 a ≡ false → x ≡ table
+
+keeps : (table : List ℕ) (b : Answer) → KeepsTable table (leaves b table)
+keeps table b a x e not-0 = one-table a b x table (leaves b table) e refl .1
+
+good-no-refusal : (table x : List ℕ) → KeepsTable table (leaves (Good 0) x)
+good-no-refusal table x a y e not-0 =
+    let q = one-table a (Good 0) y x (leaves (Good 0) x) e refl .0 in
+    let z : _≡_ {A = ℕ} 0 1 = cc in
+    absurd (omega arith)
+
+pub build-keeps : (units : List ℕ) (u m t : ℕ) (id auth gen : List ℕ) (a : Answer) (x : List ℕ) → leaves a x ≡ buildOut units u m t id auth gen
+    → isA 0 a ≡ false → x ≡ units
+unfolding buildOut
+build-keeps units u m t id auth gen =
+    pick-cases (KeepsTable units) (eqb (length units) 4096) _ _
+    (λ f. pick-cases (KeepsTable units) (both (leb u 7) (leb m 1)) _ _ (λ g. good-no-refusal units _) (λ g. keeps units H5)) (λ f. keeps units H1)
+
+pub abort-keeps : (slots : List ℕ) (s : ℕ) (a : Answer) (x : List ℕ) → leaves a x ≡ abortOut slots s → isA 0 a ≡ false → x ≡ slots
+unfolding abortOut
+abort-keeps slots s =
+    pick-cases (KeepsTable slots) (eqb (length slots) 8192) _ _
+    (λ f. pick-cases (KeepsTable slots) (holds slots s) _ _ (λ g. good-no-refusal slots _) (λ g. keeps slots H3)) (λ f. keeps slots H1)
+
+pub reset-keeps : (slots : List ℕ) (a : Answer) (x : List ℕ) → leaves a x ≡ resetOut slots → isA 0 a ≡ false → x ≡ slots
+unfolding resetOut
+reset-keeps slots =
+    pick-cases (KeepsTable slots) (eqb (length slots) 8192) _ _ (λ f. good-no-refusal slots _) (λ f. keeps slots H1)

@@ -1,5 +1,5 @@
 -- What the history of calls alone tells of a run: which command is parked in which slot (the ledger), and which whole commands the run amounts
--- to. Nothing here reads a byte of a table but the ledger's start.
+-- to. Neither reads a byte of a table but the ledger's start.
 use mathlib.Core.Path.{_≡_}
 use mathlib.Core.Option.{Option, none, some}
 use mathlib.Core.List.{List, [], _∷_, _++_}
@@ -17,6 +17,7 @@ use Rattle.calls.specs.Outcome.{Tables}
 use Rattle.calls.specs.Whole.{Asked, whole}
 use Rattle.calls.specs.Close.{heldBy}
 use Rattle.runs.specs.Run.{Call, opens, closes, aborts, resets, Event}
+use Prim.{Unit}
 
 -- ---- the ledger
 
@@ -32,6 +33,13 @@ after ledger (opens k clock reply) a = pick (isA 1 a) (put ledger (slotIn a) (so
 after ledger (closes s d clock reply) a = pick (isFinal a) (put ledger s none) ledger
 after ledger (aborts s) a = pick (isFinal a) (put ledger s none) ledger
 after ledger resets a = pick (isFinal a) (λ i. none) ledger
+
+-- the calls that can end a command in slot i: its close, its abort, or a reset
+abbrev pub Ends : Call → ℕ → Type 0
+Ends (opens k clock reply) i = ⊥
+Ends (closes s d clock reply) i = s ≡ i
+Ends (aborts s) i = s ≡ i
+Ends resets i = Unit
 
 abbrev pub ledgerOf : Ledger → List Event → Ledger
 ledgerOf ledger [] = ledger
@@ -140,7 +148,7 @@ abbrev pub finals : List Event → ℕ
 finals [] = 0
 finals (e ∷ es) = finalIn (e .call) (e .answer) + finals es
 
--- ---- what one call of a run does
+-- ---- the tables and the ledger
 
 -- tables of their sizes, whose slots are sound and agree with the ledger
 pub record Fits (t : Tables) (ledger : Ledger) : Type 0 where

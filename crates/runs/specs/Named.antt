@@ -34,7 +34,7 @@ use Rattle.judge.specs.Judgement.{earlierTests, laterTests, openTests, openReas
 use Rattle.judge.specs.JudgementLaws.{unknown-code, unlisted-page, capkey-rules}
 use Rattle.judge.specs.CheckedLaws.{guarded-wrapped}
 use Rattle.pages.specs.In.{inPage, replyOf}
-use Rattle.pages.specs.InLaws.{sizeOf, reply-length}
+use Rattle.pages.specs.InLaws.{page-size, reply-length}
 use Rattle.pages.specs.Out.{newVersion, seed}
 use Rattle.pages.specs.OutLaws.{right-version}
 use Rattle.pages.specs.Effects.{workingKeySet, newKeys}
@@ -98,7 +98,7 @@ module _ (l : Lent) (k : Asked) (clock : ℕ) (right : rightlyLent l ≡ true) (
 -- the reply's front
 
 pub record Counted (s : Seen) (c reply : List ℕ) (n : ℕ) : Type 0 where
-  pub count : n ≡ min (lengthField c) (sizeOf (pageOf c))
+  pub count : n ≡ min (lengthField c) (length (inPage (pageOf c) (s .own) (s .keys)))
   pub front : take n reply ≡ take n (inPage (pageOf c) (s .own) (s .keys))
   pub as-many : length (take n reply) ≡ n
 
@@ -117,7 +117,7 @@ unfolding patch
 reply-front s c reply =
     let front = take-at (replyTo s c) _ (length (replyTo s c)) refl in
     record {
-      count = reply-length (pageOf c) (lengthField c) (s .own) (s .keys);
+      count = reply-length (pageOf c) (lengthField c) (s .own) (s .keys) ∙ ap (min (lengthField c)) (sym (page-size (pageOf c) (s .own) (s .keys)));
       front = front ∙ sym (reply-cut (pageOf c) (lengthField c) (s .own) (s .keys));
       as-many = ap length front;
     }

@@ -31,7 +31,7 @@ callsOf es = map (λ (e : Event). e .call) es
 
 -- ---- a call has an answer
 
-pub record Answers (t : Tables) (k : Call) : Type 0 where
+pub record HasAnswer (t : Tables) (k : Call) : Type 0 where
   pub answer : Answer
   pub reply : List ℕ
   pub next : Tables
@@ -69,20 +69,20 @@ reset-answers : (slots : List ℕ) → Left (resetOut slots)
 unfolding resetOut
 reset-answers slots = pick-holds Left (eqb (length slots) 8192) _ _ (Good 0, _, refl) (H1, slots, refl)
 
-on-all : (t : Tables) (k : Call) (a : Answer) (m : Lent) → Meets t k a (m .reply) (m .tabled) → Answers t k
+on-all : (t : Tables) (k : Call) (a : Answer) (m : Lent) → Meets t k a (m .reply) (m .tabled) → HasAnswer t k
 on-all t k a m e = record { answer = a; reply = m .reply; next = m .tabled; meets = e }
 
-pub answered : (t : Tables) (k : Call) → Answers t k
-answered t (opens k clock reply) =
+pub has-answer : (t : Tables) (k : Call) → HasAnswer t k
+has-answer t (opens k clock reply) =
     let w = open-answers (lent t reply) k clock in
     on-all t (opens k clock reply) (w .0) (w .1) (w .2)
-answered t (closes s d clock reply) =
+has-answer t (closes s d clock reply) =
     let w = close-answers (lent t reply) s d clock in
     on-all t (closes s d clock reply) (w .0) (w .1) (w .2)
-answered t (aborts s) =
+has-answer t (aborts s) =
     let w = abort-answers (t .slots) s in
     on-all t (aborts s) (w .0) (lent (tables (t .units) (w .1)) []) (w .2, refl, refl)
-answered t resets =
+has-answer t resets =
     let w = reset-answers (t .slots) in
     on-all t resets (w .0) (lent (tables (t .units) (w .1)) []) (w .2, refl, refl)
 
@@ -116,7 +116,7 @@ one-meets t resets a b r s n m p q = slots-same t a b r s n m _ p q
 pub run-exists : (ks : List Call) (t : Tables) → (es : List Event) × (n : Tables) × (callsOf es ≡ ks) × Ran t es n
 run-exists [] t = ([], t, refl, refl)
 run-exists (k ∷ ks) t =
-    let w = answered t k in
+    let w = has-answer t k in
     let r = run-exists ks (w .next) in
     (event k (w .answer) (w .reply) ∷ r .0, r .1, ap (λ (xs : List Call). k ∷ xs) (r .2), (w .next, w .meets, r .3))
 

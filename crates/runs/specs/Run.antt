@@ -27,6 +27,19 @@ pub data Call : Type 0 where
   aborts : ℕ → Call
   resets : Call
 
+abbrev pub isOpens : Call → Bool
+isOpens (opens k clock reply) = true
+isOpens (closes s d clock reply) = false
+isOpens (aborts s) = false
+isOpens resets = false
+
+-- is it an open or a close?
+abbrev pub isCommand : Call → Bool
+isCommand (opens k clock reply) = true
+isCommand (closes s d clock reply) = true
+isCommand (aborts s) = false
+isCommand resets = false
+
 -- a call as it was answered, with its reply buffer as it was left
 pub record Event : Type 0 where
   pub call : Call

@@ -112,7 +112,7 @@ ledger-holds slots ledger agrees s h =
     let p = holds-open slots s h in
     held-some (ledger s) (heldBy (slotAt s slots)) (sym (view-open (slotAt s slots) (p .1)) ∙ agrees s (p .0))
 
--- ---- the token of a command that an open parks, and of one that a slot holds, has 16 to 64 bytes
+-- ---- the token of a command that a slot holds has 16 to 64 bytes
 
 pub held-token : (rec : List ℕ) → length rec ≡ 512 → slotStateOf rec ≡ Open → rightToken (length (slotToken rec)) ≡ true
 unfolding slotToken rightToken

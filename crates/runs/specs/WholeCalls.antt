@@ -71,16 +71,17 @@ freed-parked s u c token slots full h hc ht free =
 
 -- ---- the two ways
 
+-- an open that doesn't park answers the whole command
+pub whole-opened : (l : Lent) (k : Asked) (d : List ℕ) (clock : ℕ) → rightlyLent l ≡ true → rightToken (length (k .token)) ≡ true
+    → parks (l .tabled .units) k clock ≡ false → openOut l k clock ≡ answered l (whole (l .tabled .units) k d clock)
+unfolding openOut judgedOut
+whole-opened l k d clock right sized p = rw (right, sized, p) (ap (answered l) (open-whole (l .tabled .units) k d clock p))
+
 module _ (l : Lent) (k : Asked) (d : List ℕ) (clock : ℕ) (s : SlotNo) (right : rightlyLent l ≡ true)
     (sized : rightToken (length (k .token)) ≡ true) (free : lowestFree (l .tabled .slots) ≡ At s) where
   -- what is lent while the command waits for its data
   abbrev pub waiting : Lent
   waiting = withSlots (parked (s .0) (k .unit) (k .command) (k .token) (l .tabled .slots)) l
-
-  -- an open that doesn't park answers the whole command
-  pub whole-opened : parks (l .tabled .units) k clock ≡ false → openOut l k clock ≡ answered l (whole (l .tabled .units) k d clock)
-  unfolding openOut judgedOut
-  whole-opened p = rw (right, sized, p) (ap (answered l) (open-whole (l .tabled .units) k d clock p))
 
   module _ (p : parks (l .tabled .units) k clock ≡ true) where
     -- one that parks takes the lowest free slot

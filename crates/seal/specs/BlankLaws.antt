@@ -8,10 +8,10 @@ use lib.ListN.{length, take, drop, replicate, length-append, length-replicate, l
 use lib.Seq.{take-all, drop-at}
 use Rattle.choice.specs.Choice.{both}
 use Rattle.choice.specs.ChoiceLaws.{both-true}
-use Rattle.wire.specs.Bytes.{same, part, zeros, patch}
+use Rattle.wire.specs.Bytes.{same, part, number, bytesOf, zeros, patch}
 use Rattle.wire.specs.SameLaws.{same-true, same-refl, same-is}
 use Rattle.wire.specs.ZeroLaws.{zeros-part, zeros-replicate}
-use Rattle.words.specs.Words.{bits, and32, or32, xor32, not32, add32, rotl, ch, parity, maj, be32, wordAt, bytes32}
+use Rattle.words.specs.Words.{bits, and32, or32, xor32, not32, add32, rotl, ch, parity, maj}
 use Rattle.md.specs.Padding.{zerosFor, lengthBlock, padding, padded}
 use Rattle.md.specs.Chain.{absorb}
 use Rattle.sha1.specs.Sha1.{f, K, initial, mixed, W, schedule, turned, round, rounds, plus, compressed, digestOf, blocks, sha1}
@@ -24,7 +24,7 @@ blankCheck = 0xaa ∷ 0xc4 ∷ 0x93 ∷ 0xc3 ∷ 0xed ∷ 0x21 ∷ 0x3d ∷ 0x17
 
 -- worked out by the checker from the definition of SHA-1
 computed : sha1 (replicate 492 0) ≡ blankCheck
-unfolding sha1 blocks absorb digestOf compressed plus padded padding zerosFor lengthBlock bytes32 schedule W mixed wordAt be32 rounds round turned f K ch parity maj not32 xor32 and32 or32 bits rotl add32 initial
+unfolding sha1 blocks absorb digestOf compressed plus padded padding zerosFor lengthBlock bytesOf schedule W mixed number rounds round turned f K ch parity maj not32 xor32 and32 or32 bits rotl add32 initial
 computed = refl
 
 pub blank-length : length blank ≡ 512

@@ -8,7 +8,8 @@ use native.Mathlib.Nat.{add-suc, add-zero, add-assoc}
 use lib.ListN.{length, getD, take, set, length-append, length-set}
 use lib.Seq.{take-suc-set, take-all, take-take, take-append-le, take-set-le, getD-take, getD-at}
 use borrow.Author.Tests.{lt-ltb, le-ltb}
-use Rattle.words.specs.Words.{ch, parity, maj, wordAt, bytes32}
+use Rattle.wire.specs.NumberLaws.{bytes-length}
+use Rattle.words.specs.Words.{ch, parity, maj, wordAt}
 use Rattle.md.specs.Padding.{blockCount}
 use Rattle.md.specs.PaddingLaws.{padded-blocks}
 use Rattle.sha1.specs.declared.block.State.{State}
@@ -139,14 +140,6 @@ begun-at {w} {block} b e = subst (Begun w block) e b
 
 -- ---- rounds
 
-rounds-zero : (w : List ℕ) (t : ℕ) (s : State) → rounds w t 0 s ≡ s
-unfolding rounds
-rounds-zero w t s = refl
-
-rounds-more : (w : List ℕ) (t n : ℕ) (s : State) → rounds w t (n + 1) s ≡ round w (t + n) (rounds w t n s)
-unfolding rounds
-rounds-more w t n s = rw add-one refl
-
 rounds-add : (w : List ℕ) (t n m : ℕ) (s : State) → rounds w t (n + m) s ≡ rounds w (t + n) m (rounds w t n s)
 unfolding rounds
 rounds-add w t n zero s = rw add-zero refl
@@ -182,8 +175,8 @@ chain-eighty block h v₀ v₁ v₂ v₃ r e₀ e₁ e₂ e₃ er =
 -- ---- the end
 
 pub sha1-length : (m : List ℕ) → length (sha1 m) ≡ 20
-unfolding sha1 digestOf bytes32
-sha1-length m = refl
+unfolding sha1 digestOf
+sha1-length m = simp (length-append, bytes-length)
 
 pub sha1-blocks : (m : List ℕ) → blocks m ≡ blockCount (length m)
 unfolding blocks

@@ -33,6 +33,17 @@ module _ (u : ℕ) (l : List ℕ) (full : length l ≡ 512) where
   unfolding unitStateOf
   state-unused e = rw (same-true l blankRecord e, record-checked, record-zeros)
 
+  -- and an unused record is the blank one
+  pub unused-blank : unitStateOf u l ≡ Unused → l ≡ blankRecord
+  unfolding unitStateOf
+  unused-blank e = by-parts (checked l) (zeros 492 0 l) (usedShape u l) refl refl e
+    where
+      by-parts : (k z s : Bool) → checked l ≡ k → zeros 492 0 l ≡ z → pick k (pick z Unused (pick s Used Unsound)) Unsound ≡ Unused → l ≡ blankRecord
+      by-parts true true s ek ez q = blank-sound l full ek ez
+      by-parts true false true ek ez q = let o : _≡_ {A = ℕ} 0 1 = cc in absurd (omega arith)
+      by-parts true false false ek ez q = let o : _≡_ {A = ℕ} 0 1 = cc in absurd (omega arith)
+      by-parts false z s ek ez q = let o : _≡_ {A = ℕ} 0 1 = cc in absurd (omega arith)
+
   -- a sound record of zeros is the blank one, so what is not has a byte that is not zero
   not-zero : same l blankRecord ≡ false → checked l ≡ true → (b : Bool) → zeros 492 0 l ≡ b → zeros 492 0 l ≡ false
   not-zero e k false z = z
@@ -57,9 +68,9 @@ module _ (u : ℕ) (l : List ℕ) (full : length l ≡ 512) where
   pub state-unsound : same l blankRecord ≡ false → both (usedShape u l) (checked l) ≡ false → Unsound ≡ unitStateOf u l
   state-unsound e b = unshaped e (checked l) refl (usedShape u l) refl b
 
--- ---- what a used record holds
+-- ---- what a used record holds: in numbers, what callers ask for
 
-pub record Sound (u : ℕ) (l : List ℕ) : Type 0 where
+pub record UsedHas (u : ℕ) (l : List ℕ) : Type 0 where
   pub check : checked l ≡ true
   pub used : layout l ≡ 1
   pub place : unitNumber l ≡ u
@@ -73,7 +84,7 @@ used-parts true false true e = (refl, refl)
 used-parts true false false e = (refl, cc)
 used-parts false z s e = (cc, cc)
 
-pub used-sound : (u : ℕ) (l : List ℕ) → unitStateOf u l ≡ Used → Sound u l
+pub used-sound : (u : ℕ) (l : List ℕ) → unitStateOf u l ≡ Used → UsedHas u l
 unfolding unitStateOf usedShape
 used-sound u l e =
     let p = used-parts (checked l) (zeros 492 0 l) (usedShape u l) e in

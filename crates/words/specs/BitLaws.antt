@@ -3,10 +3,12 @@
 use Prim.Native.Nat.{ℕ, zero, suc, _+_, _-_, _*_, _/_, _%_, _^_, _<_, min, max}
 use mathlib.Core.Path.{_≡_, refl, sym, ap, ap₂, _∙_}
 use mathlib.Core.Logic.{_⊎_, inl, inr}
+use mathlib.Core.List.{[], _∷_}
 use native.Mathlib.Omega.{arith}
 use native.Mathlib.Nat.{div-le-self, lt-of-le-of-lt}
 use lib.Bits.{bitAnd, bitOr, bitXor, differ, and-step, or-step, xor-step, and-shr, xor-shr, and-mod, xor-mod, and-lt, xor-lt, and-comm, xor-add-and, and-mask}
-use Rattle.words.specs.Words.{bits, and32, or32, xor32, not32, rotl, ch, parity, maj}
+use Rattle.wire.specs.Bytes.{bytesOf}
+use Rattle.words.specs.Words.{bits, and32, or32, xor32, not32, rotl, ch, parity, maj, bytes32}
 
 -- an expression in three numbers
 data Expr : Type 0 where
@@ -175,3 +177,11 @@ shifted x p h = lt-of-le-of-lt (div-le-self x p) h
 pub rotl-is : (n x : ℕ) → x < 2 ^ 32 → bitOr ((x * 2 ^ n) % 2 ^ 32) (x / 2 ^ (32 - n)) ≡ rotl n x
 unfolding rotl
 rotl-is n x h = sym (or-is ((x * 2 ^ n) % 2 ^ 32) (x / 2 ^ (32 - n)) (omega arith) (shifted x (2 ^ (32 - n)) h))
+
+-- a word's bytes by shifts
+pub by-shifts : (x : ℕ) → bytes32 x ≡ x / 2 ^ 24 % 256 ∷ x / 2 ^ 16 % 256 ∷ x / 2 ^ 8 % 256 ∷ x % 256 ∷ []
+unfolding bytesOf
+by-shifts x =
+    let e₂ : x / 256 / 256 ≡ x / 2 ^ 16 = omega arith in
+    let e₃ : x / 256 / 256 / 256 ≡ x / 2 ^ 24 = omega arith in
+    rw (e₃, e₂)

@@ -1,8 +1,8 @@
 -- Words of 32 bits, after FIPS 180-4: operations (section 2.2.2), the three functions that SHA-1's four are made of (4.1.1),
 -- and the big-endian order of a word's bytes (3.1). A word is a number below 2^32. The checker can compute all of it.
 use Prim.Native.Nat.{ℕ, zero, suc, _+_, _-_, _*_, _/_, _%_, _^_, min, max}
-use mathlib.Core.List.{List, [], _∷_}
-use lib.ListN.{getD}
+use mathlib.Core.List.{List}
+use Rattle.wire.specs.Bytes.{number, bytesOf}
 
 -- an operation on the bits of two words, n of them, the last first
 unfoldable pub bits : ℕ → (ℕ → ℕ → ℕ) → ℕ → ℕ → ℕ
@@ -43,14 +43,9 @@ parity x y z = xor32 (xor32 x y) z
 unfoldable pub maj : ℕ → ℕ → ℕ → ℕ
 maj x y z = xor32 (xor32 (and32 x y) (and32 x z)) (and32 y z)
 
--- the word whose bytes are a, b, c, d, the highest first
-unfoldable pub be32 : ℕ → ℕ → ℕ → ℕ → ℕ
-be32 a b c d = ((a * 256 + b) * 256 + c) * 256 + d
+-- the word at index i of a list of bytes, and the four bytes of a word, the highest first
+abbrev pub wordAt : List ℕ → ℕ → ℕ
+wordAt l i = number 4 i l
 
--- the word at index i of a list of bytes
-unfoldable pub wordAt : List ℕ → ℕ → ℕ
-wordAt l i = be32 (getD l i 0) (getD l (i + 1) 0) (getD l (i + 2) 0) (getD l (i + 3) 0)
-
--- the four bytes of a word, the highest first
-unfoldable pub bytes32 : ℕ → List ℕ
-bytes32 x = x / 2 ^ 24 % 256 ∷ x / 2 ^ 16 % 256 ∷ x / 2 ^ 8 % 256 ∷ x % 256 ∷ []
+abbrev pub bytes32 : ℕ → List ℕ
+bytes32 x = bytesOf 4 x

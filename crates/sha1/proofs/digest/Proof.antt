@@ -1,7 +1,6 @@
 -- Byte by byte as the definition has it.
-use mathlib.Core.Path.{refl}
 use Rattle.sha1.specs.Sha1.{digestOf}
-use Rattle.words.specs.Words.{bytes32}
+use Rattle.words.specs.BitLaws.{by-shifts}
 use borrow.Author.Needs.{needs}
 use Rattle.sha1.proofs.digest.Statement.{statement}
 use Rattle.sha1.proofs.digest.Tie as tie
@@ -67,8 +66,8 @@ cast-t56 : tie.Need-cast-t56
 cast-t56 c = search needs
 
 returns : tie.Need-returns
-unfolding digestOf bytes32
-returns c = refl
+unfolding digestOf
+returns c = simp by-shifts
 
 pub digest-spec : {M : Type 1} → statement M
 digest-spec =

@@ -1,6 +1,7 @@
 -- Each byte is below 256, so the sums and products fit.
 use native.Mathlib.Omega.{arith}
-use Rattle.words.specs.Words.{wordAt, be32}
+use native.Mathlib.Nat.{add-zero}
+use Rattle.wire.specs.Bytes.{number}
 use borrow.Author.Needs.{needs}
 use Rattle.words.proofs.load.Statement.{statement}
 use Rattle.words.proofs.load.Tie as tie
@@ -57,8 +58,8 @@ add-result-3 : tie.Need-add-result-3
 add-result-3 c = omega arith
 
 returns : tie.Need-returns
-unfolding wordAt be32
-returns c = cc
+unfolding number
+returns c = rw add-zero (omega arith)
 
 pub load-spec : {M : Type 1} → statement M
 load-spec =

@@ -3,7 +3,7 @@ use mathlib.Core.Path.{_≡_}
 use Prim.Native.Nat.{ℕ, suc, _+_}
 use native.Mathlib.Omega.{arith}
 use lib.ListN.{length-set}
-use Rattle.words.specs.Words.{bytes32}
+use Rattle.words.specs.BitLaws.{by-shifts}
 use borrow.Author.Needs.{needs}
 use Rattle.words.proofs.store.Statement.{statement}
 use Rattle.words.proofs.store.Tie as tie
@@ -45,13 +45,12 @@ same-length : tie.Need-same-length
 same-length c = search needs
 
 returns : tie.Need-returns
-unfolding bytes32
 returns c =
     let i : ℕ = c .before .before .before .before .before .args .i in
     let e₁ : i + 1 ≡ suc i = omega arith in
     let e₂ : i + 2 ≡ suc (suc i) = omega arith in
     let e₃ : i + 3 ≡ suc (suc (suc i)) = omega arith in
-    cc
+    rw by-shifts (cc)
 
 pub store-spec : {M : Type 1} → statement M
 store-spec =

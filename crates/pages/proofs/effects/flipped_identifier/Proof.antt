@@ -1,7 +1,8 @@
 -- The sixteen bytes, copied, and the last one flipped.
 use mathlib.Core.Path.{refl}
 use denote.Ref.{now}
-use Rattle.pages.specs.StepLaws.{identifier-length, flipped-steps}
+use Rattle.units.specs.UnitLaws.{identifier-length}
+use Rattle.pages.specs.StepLaws.{flipped-steps}
 use native.Mathlib.Omega.{arith}
 use borrow.Author.Needs.{needs}
 use Rattle.pages.proofs.effects.flipped_identifier.Statement.{statement}

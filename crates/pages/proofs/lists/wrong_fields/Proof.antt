@@ -1,4 +1,4 @@
--- Each arm's page has its own test; a page of no arm has no field.
+-- Each arm's page has its own test; of the others only Change is right.
 use borrow.Author.Tests.{ne-eqb}
 use Rattle.pages.specs.Out.{wrongFields}
 use Rattle.pages.specs.FrontLaws.{attributes-judged, key-judged, exchange-judged}
