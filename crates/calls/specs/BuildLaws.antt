@@ -1,5 +1,5 @@
--- Laws of build: case by case; and of a build that was answered A0, that the record stands at its place as it was asked for, sound and used, and
--- every other record keeps its bytes.
+-- Laws of build: case by case; and of a build that was answered A0, that the record stands at its place as it was asked for, sound and
+-- used, and every other record keeps its bytes.
 use mathlib.Core.Path.{_≡_, refl, ap, _∙_}
 use mathlib.Core.Bool.{Bool, true, false}
 use mathlib.Core.List.{List}
@@ -72,7 +72,8 @@ module _ (units : List ℕ) (u m t : ℕ) (id auth gen : List ℕ) where
           }
 
   -- a tag of four bytes, an identifier of 16 bytes and keys of 20: what the call's types say
-  module _ (x : List ℕ) (good : leaves (Good 0) x ≡ buildOut units u m t id auth gen) (ht : t < 2 ^ 32) (hi : length id ≡ 16) (ha : length auth ≡ 20)
+  module _ (x : List ℕ) (good : leaves (Good 0) x ≡ buildOut units u m t id auth gen) (ht : t < 2 ^ 32) (hi : length id ≡ 16)
+      (ha : length auth ≡ 20)
       (hg : length gen ≡ 20) where
     fit : Fit (built u m t id auth gen)
     fit =

@@ -54,7 +54,8 @@ held-silent units rec d clock e =
 pub list-asked : (c d : List ℕ) (f : Facts) → f ≡ factsOf c → f .code ≡ protocolOut
     → (eqb (codeOf c) protocolOut ≡ true → (length d ≡ totalOf (pageOf c)) × (wrongList (pageOf c) d ≡ false))
     → (length d ≡ totalOf (f .page)) × (wrongList (f .page) d ≡ false)
-list-asked c d f ef e h = let p = h (eq-eqb (codeOf c) protocolOut (ap (λ (x : Facts). x .code) (sym ef) ∙ e)) in (rw ef (p .0), rw ef (p .1))
+list-asked c d f ef e h =
+    let p = h (eq-eqb (codeOf c) protocolOut (ap (λ (x : Facts). x .code) (sym ef) ∙ e)) in (rw ef (p .0), rw ef (p .1))
 
 -- the record that an Out page makes anew
 module _ (s : Seen) (page : ℕ) (d : List ℕ) where
@@ -89,7 +90,8 @@ module _ (units : List ℕ) (k : Asked) (d : List ℕ) (clock r : ℕ) (hr : r �
   whole-refused n a e = rw (← hr, judged-refused (seen units (k .unit)) (k .command) d r n, e)
 
 -- unit, command and token as the code reads them from a slot's record
-module _ (units rec d : List ℕ) (clock u : ℕ) (c t : List ℕ) (eu : u ≡ slotUnit rec) (ec : c ≡ slotCommand rec) (et : t ≡ slotToken rec) where
+module _ (units rec d : List ℕ) (clock u : ℕ) (c t : List ℕ) (eu : u ≡ slotUnit rec) (ec : c ≡ slotCommand rec)
+    (et : t ≡ slotToken rec) where
   pub held-reason : (r : ℕ) → r ≡ closeReason (seen units u) c t d clock → r ≡ wholeReason units (heldBy rec) d clock
   held-reason r h = rw (eu, ec, et) at h
 
@@ -109,7 +111,8 @@ module _ (l : Lent) (s : ℕ) (d : List ℕ) (clock : ℕ) (b : Bool) (hb : b �
     unfolding closeOut
     close-h3 f = rw (← hb, t, ← hh, f)
 
-    pub close-held : h ≡ true → (a : Answer) (us : List ℕ) → leaves a us ≡ onUnits (whole (l .tabled .units) (heldBy (slotAt s (l .tabled .slots))) d clock)
+    pub close-held : h ≡ true → (a : Answer) (us : List ℕ)
+        → leaves a us ≡ onUnits (whole (l .tabled .units) (heldBy (slotAt s (l .tabled .slots))) d clock)
         → gives a (lent (tables us (freed s (l .tabled .slots))) (l .reply)) ≡ closeOut l s d clock
     unfolding closeOut
     close-held g a us e =

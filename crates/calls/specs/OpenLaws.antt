@@ -81,6 +81,7 @@ module _ (reply : List ℕ) (s : Seen) (c : List ℕ) (n : eqb (codeOf c) 0xB5 �
   answers-run f = rw (n, ← hb, f) (rw patch-none)
 
 -- the reply, as the code asks for it
-pub reply-asked : (s : Seen) (c : List ℕ) (f : Facts) (n : ℕ) (own keys : List ℕ) → f ≡ factsOf c → n ≡ lengthField c → own ≡ s .own → keys ≡ s .keys
+pub reply-asked : (s : Seen) (c : List ℕ) (f : Facts) (n : ℕ) (own keys : List ℕ) → f ≡ factsOf c → n ≡ lengthField c → own ≡ s .own
+    → keys ≡ s .keys
     → replyOf (f .page) n own keys ≡ replyTo s c
 reply-asked s c f n own keys ef en eo ek = rw (ef, en, eo, ek)

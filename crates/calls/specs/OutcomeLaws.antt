@@ -30,6 +30,7 @@ lengths-are us ss rs e =
     let q = both-true (eqb ss 8192) _ (p .1) in
     (eqb-true us 4096 (p .0), eqb-true ss 8192 (q .0), eqb-true rs 512 (q .1))
 
-pub lengths-right : (t : Tables) (reply : List ℕ) → length (t .units) ≡ 4096 → length (t .slots) ≡ 8192 → rightlyLent (lent t reply) ≡ eqb (length reply) 512
+pub lengths-right : (t : Tables) (reply : List ℕ) → length (t .units) ≡ 4096 → length (t .slots) ≡ 8192
+    → rightlyLent (lent t reply) ≡ eqb (length reply) 512
 unfolding rightLengths
 lengths-right t reply hu hs = rw (eq-eqb (length (t .units)) 4096 hu, eq-eqb (length (t .slots)) 8192 hs)

@@ -1,6 +1,6 @@
--- A whole command, from document 01's rules alone. It is local, then stored: what it sees of the unit table, its token, data and clock give an
--- answer, the bytes that are written at the reply's front, and the record that it makes anew; that record is then laid into the table. Slots
--- have no part in it.
+-- A whole command, from document 01's rules alone. It is local, then stored: what it sees of the unit table, its token, data and clock
+-- give an answer, the bytes that are written at the reply's front, and the record that it makes anew; that record is then laid into the
+-- table. Slots have no part in it.
 use mathlib.Core.Bool.{Bool, not}
 use mathlib.Core.List.{List, [], _∷_, _++_}
 use Prim.Native.Nat.{ℕ, _*_}
@@ -68,7 +68,8 @@ replyTo s c = replyOf (pageOf c) (lengthField c) (s .own) (s .keys)
 
 -- Set Attributes makes the unit's record anew, the other pages that of its key set
 unfoldable pub madeBy : Seen → ℕ → List ℕ → Made
-madeBy s page d = pick (eqb page setAttributes) (attributes (attributesSet (newMethod d) (newTag d) (s .own))) (keySet (newKeys page d (s .keys)))
+madeBy s page d =
+    pick (eqb page setAttributes) (attributes (attributesSet (newMethod d) (newTag d) (s .own))) (keySet (newKeys page d (s .keys)))
 
 -- a command that passed: B5h does what its page says, a page handled here is replied, the rest is run by medium or crypto block
 unfoldable pub passed : Seen → List ℕ → List ℕ → Local

@@ -101,7 +101,8 @@ unfolding isReplied dataOut
 not-replied c h = by-cases (eqb (codeOf c) protocolIn) refl
   where
     by-cases : (b : Bool) → eqb (codeOf c) protocolIn ≡ b → both b (not (eqb (pageOf c) seedIn)) ≡ false
-    by-cases true e = absurd (let z : false ≡ true = rw (eqb-true (codeOf c) protocolIn e) at h in let q : _≡_ {A = ℕ} 0 1 = cc in omega arith)
+    by-cases true e =
+        absurd (let z : false ≡ true = rw (eqb-true (codeOf c) protocolIn e) at h in let q : _≡_ {A = ℕ} 0 1 = cc in omega arith)
     by-cases false e = refl
 
 -- a command that a slot holds carries data out

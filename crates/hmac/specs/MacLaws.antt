@@ -25,7 +25,8 @@ module _ (h : Hash) {R : Type 0} (Holds : R → List ℕ → Type 0) where
   mac-fed {m = m} {p = p} s t = record { inside = rw append-assoc at (t _ (s .inside)); outside = s .outside }
 
   -- parts fed one after another give the whole
-  pub mac-parts : {inner inner′ outer : R} {k m : List ℕ} {ps : List (List ℕ)} → Passes h Holds inner outer k m → TakesAll Holds inner ps inner′
+  pub mac-parts : {inner inner′ outer : R} {k m : List ℕ} {ps : List (List ℕ)} → Passes h Holds inner outer k m
+      → TakesAll Holds inner ps inner′
       → Passes h Holds inner′ outer k (m ++ joined ps)
   mac-parts s ts = mac-fed s (parts-whole Holds ts)
 

@@ -71,7 +71,8 @@ tag-passed t unitTag e = go (eqb t 0) (eqb t unitTag) refl refl e
     go false true p q k = inr (eqb-true t unitTag q)
     go false false p q k = let z : _≡_ {A = ℕ} 0 1 = cc in absurd (omega arith)
 
-descriptor-passed : (type len : ℕ) (id unitId : List ℕ) → wrongDescriptor type len id unitId ≡ false → (type ≡ 1) × (len ≡ 16) × (id ≡ unitId)
+descriptor-passed : (type len : ℕ) (id unitId : List ℕ) → wrongDescriptor type len id unitId ≡ false
+    → (type ≡ 1) × (len ≡ 16) × (id ≡ unitId)
 unfolding wrongDescriptor
 descriptor-passed type len id unitId e =
     let p = either-false (not (eqb type 1)) _ e in
@@ -157,7 +158,8 @@ module _ (s : Seen) (c token : List ℕ) (clock : ℕ) (none : openReason s c to
 
   long : length c ≡ cdbLen (codeOf c) + 78
   unfolding legalLen isBare
-  long = exact (eqb (cdbLen (codeOf c)) 0) (eqb (length c) (cdbLen (codeOf c) + 78)) refl (rw guarded-wrapped at (open-passed s c token clock none .legal))
+  long =
+      exact (eqb (cdbLen (codeOf c)) 0) (eqb (length c) (cdbLen (codeOf c) + 78)) refl (rw guarded-wrapped at (open-passed s c token clock none .legal))
     where
       exact : (z w : Bool) → eqb (length c) (cdbLen (codeOf c) + 78) ≡ w → pick z false w ≡ true → length c ≡ cdbLen (codeOf c) + 78
       exact true w e k = let z : _≡_ {A = ℕ} 0 1 = cc in absurd (omega arith)

@@ -135,7 +135,8 @@ unfolding openReason openTests earlierTests unitTests codeTests
 unknown-code s c token clock h e k = rw (le-ltb 7 (s .unit) h, e, k)
 
 -- and with reason 4 where its code goes by page and the page is unlisted
-pub unlisted-page : (s : Seen) (c token : List ℕ) (clock : ℕ) → s .unit ≤ 7 → s .state ≡ Used → either (eqb (length c) 0) (not (listed (codeOf c))) ≡ false
+pub unlisted-page : (s : Seen) (c token : List ℕ) (clock : ℕ) → s .unit ≤ 7 → s .state ≡ Used
+    → either (eqb (length c) 0) (not (listed (codeOf c))) ≡ false
     → legalLen (codeOf c) (length c) ≡ true → byPage (codeOf c) ≡ true → isUnknown (needFor c) ≡ true → openReason s c token clock ≡ 4
 unfolding openReason openTests earlierTests laterTests unitTests codeTests lengthTests protocolTests wrongProtocol
 unlisted-page s c token clock h e k l b u =
@@ -181,7 +182,8 @@ module _ (s : Seen) (c : List ℕ) (clock : ℕ) (t₁ t₂ : List ℕ) where
   value token = valueTests (rulesFor (s .own) c) (s .keys) (isMaster (needFor c)) (isChange c) (descriptorOf c) (checkValueOf c) token
 
   -- the list, where 6 to 15 are not skipped
-  whole-list : (token : List ℕ) → skipsGuard (s .own) c ≡ false → openTests s c token clock ≡ before ++ (value token ++ pageTests (s .keys) c)
+  whole-list : (token : List ℕ) → skipsGuard (s .own) c ≡ false
+      → openTests s c token clock ≡ before ++ (value token ++ pageTests (s .keys) c)
   unfolding openTests laterTests guardTests value
   whole-list token e = rw e (simp append-assoc)
 
@@ -218,7 +220,8 @@ module _ (s : Seen) (c : List ℕ) (clock : ℕ) (t₁ t₂ : List ℕ) where
       by-skip : (k : Bool) → skipsGuard (s .own) c ≡ k → both (both (rulesFor (s .own) c) (not k)) (eqb (first before) 0) ≡ false
           → openReason s c t₁ clock ≡ openReason s c t₂ clock
       by-skip true e h = ap first (skipped e)
-      by-skip false e h = by-rules (rulesFor (s .own) c) (eqb (first before) 0) refl refl (ruled (rulesFor (s .own) c) (eqb (first before) 0) h) e
+      by-skip false e h =
+          by-rules (rulesFor (s .own) c) (eqb (first before) 0) refl refl (ruled (rulesFor (s .own) c) (eqb (first before) 0) h) e
         where
           ruled : (r b : Bool) → both (both r true) b ≡ false → both r b ≡ false
           ruled true b q = q
@@ -227,14 +230,16 @@ module _ (s : Seen) (c : List ℕ) (clock : ℕ) (t₁ t₂ : List ℕ) where
 -- ---- how the code goes from group to group
 
 module _ (s : Seen) (c : List ℕ) where
-  pub earlier-order : (e x ru rc rl : ℕ) → ru ≡ first (unitTests (s .unit) (s .state)) → rc ≡ first (codeTests c) → rl ≡ first (lengthTests c)
+  pub earlier-order : (e x ru rc rl : ℕ) → ru ≡ first (unitTests (s .unit) (s .state)) → rc ≡ first (codeTests c)
+      → rl ≡ first (lengthTests c)
       → x ≡ orElse rc rl → e ≡ orElse ru x → e ≡ first (earlierTests s c)
   unfolding earlierTests unitTests codeTests
   earlier-order e x ru rc rl hu hc hl hx he =
       let us = unitTests (s .unit) (s .state) in
       he ∙ rw (hx, hu, hc, hl) (sym (first-append us (codeTests c ++ lengthTests c) refl ∙ ap (orElse (first us)) (first-append (codeTests c) (lengthTests c) refl)))
 
-  pub earlier-passed : (e : ℕ) → e ≡ first (earlierTests s c) → e ≡ 0 → (s .unit < 8) × (s .state ≡ Used) × (legalLen (codeOf c) (length c) ≡ true)
+  pub earlier-passed : (e : ℕ) → e ≡ first (earlierTests s c) → e ≡ 0
+      → (s .unit < 8) × (s .state ≡ Used) × (legalLen (codeOf c) (length c) ≡ true)
   unfolding earlierTests
   earlier-passed e he z =
       let all = append-none (unitTests (s .unit) (s .state)) (codeTests c ++ lengthTests c) (first-none (earlierTests s c) (earlier-named s c) (sym he ∙ z)) in
@@ -272,11 +277,13 @@ module _ (own keys c token : List ℕ) (clock : ℕ) where
     unfolding guardTests credentialTests bareTests skipsGuard
     guard-bare b = rw (guarded, b, bare-ruled (isOpenRow (needFor c)) (rulesFor own c) (rw b at guarded))
 
-    pub guard-wrapped : isBare c ≡ false → (r : ℕ) → r ≡ first (wrappedTests own keys c token clock) → r ≡ first (guardTests own keys c token clock)
+    pub guard-wrapped : isBare c ≡ false → (r : ℕ) → r ≡ first (wrappedTests own keys c token clock)
+        → r ≡ first (guardTests own keys c token clock)
     unfolding guardTests credentialTests bareTests wrappedTests formTests factTests foundTests valueTests
     guard-wrapped b r h = rw (guarded, b) h
 
-  module _ (rules : Bool) (er : rules ≡ rulesFor own c) (f : Facts) (ef : f ≡ factsOf c) (d : List ℕ) (ed : d ≡ descriptorOf c) (e rf rt : ℕ)
+  module _ (rules : Bool) (er : rules ≡ rulesFor own c) (f : Facts) (ef : f ≡ factsOf c) (d : List ℕ) (ed : d ≡ descriptorOf c)
+      (e rf rt : ℕ)
       (hf : rf ≡ first (formTests rules d)) (ht : rt ≡ first (factTests (f .need) own d clock)) (he : e ≡ orElse rf rt) where
     wrapped-order : (ts : List Test)
         → first (formTests (rulesFor own c) (descriptorOf c) ++ (factTests (needFor c) own (descriptorOf c) clock ++ ts)) ≡ orElse e (first ts)
@@ -300,7 +307,8 @@ module _ (own keys c token : List ℕ) (clock : ℕ) where
     wrapped-stops n = else-first e _ n ∙ sym (wrapped-order _)
 
 -- are 6 to 15 skipped? As the code asks
-pub skips-is : (own c : List ℕ) (o r b a s : Bool) → o ≡ isOpenRow (needFor c) → r ≡ rulesFor own c → b ≡ isBare c → a ≡ both b (not r) → s ≡ either o a
+pub skips-is : (own c : List ℕ) (o r b a s : Bool) → o ≡ isOpenRow (needFor c) → r ≡ rulesFor own c → b ≡ isBare c → a ≡ both b (not r)
+    → s ≡ either o a
     → s ≡ skipsGuard own c
 unfolding skipsGuard
 skips-is own c o r b a s ho hr hb ha hs = rw (hs, ha, ho, hr, hb)
@@ -336,7 +344,8 @@ module _ (keys d value token : List ℕ) (m n mm nn : Bool) (em : mm ≡ m) (en 
     unfolding foundTests keyVersion
     keys-lacking f = rw (t, ← ex, ← em, ← en, ← ef, f)
 
-    pub keys-judged : found ≡ true → (key : List ℕ) → key ≡ keyUsed keys mm nn (x % 16) → (wrong : Bool) → wrong ≡ not (same (tagFor key d token) value)
+    pub keys-judged : found ≡ true → (key : List ℕ) → key ≡ keyUsed keys mm nn (x % 16) → (wrong : Bool)
+        → wrong ≡ not (same (tagFor key d token) value)
         → (r : ℕ) → r ≡ pick wrong 15 0 → r ≡ first (foundTests rules keys m n d ++ valueTests rules keys m n d value token)
     unfolding foundTests valueTests keyVersion
     keys-judged g key ek wrong ew r er = rw (t, ← ex, ← em, ← en, ← ef, g, ← ek, ← ew) er

@@ -1,5 +1,5 @@
--- Laws of lists of tests: of two lists the second is asked where nothing in the first applies; and that nothing applies is the same whatever the
--- order.
+-- Laws of lists of tests: of two lists the second is asked where nothing in the first applies; and that nothing applies is the same
+-- whatever the order.
 use Prim.{Unit, tt}
 use mathlib.Core.Path.{_≡_, refl, sym, ap, _∙_}
 use mathlib.Core.Bool.{Bool, true, false, not}
@@ -52,8 +52,10 @@ else-assoc r s t = by-cases (eqb r 0) refl
     by-cases false q = rw (q, q)
 
 -- three lists, of which the first two are asked together
-pub first-three : (xs ys zs : List Test) → named xs ≡ true → named ys ≡ true → first (xs ++ (ys ++ zs)) ≡ orElse (orElse (first xs) (first ys)) (first zs)
-first-three xs ys zs h k = first-append xs (ys ++ zs) h ∙ ap (orElse (first xs)) (first-append ys zs k) ∙ else-assoc (first xs) (first ys) (first zs)
+pub first-three : (xs ys zs : List Test) → named xs ≡ true → named ys ≡ true
+    → first (xs ++ (ys ++ zs)) ≡ orElse (orElse (first xs) (first ys)) (first zs)
+first-three xs ys zs h k =
+    first-append xs (ys ++ zs) h ∙ ap (orElse (first xs)) (first-append ys zs k) ∙ else-assoc (first xs) (first ys) (first zs)
 
 -- the second list is asked where the first says nothing, and else not
 module _ (xs ys : List Test) (h : named xs ≡ true) (e : ℕ) (he : e ≡ first xs) where

@@ -117,7 +117,8 @@ module _ {S : Type 0} (f : S → List ℕ → S) (s₀ h : S) (buf : List ℕ) (
 blocks-ended : (l n t : ℕ) → t ≡ l % 64 → (l + n) / 64 ≡ l / 64 + (t + n) / 64
 blocks-ended l n t e = omega arith
 
-pub absorb-end : {S : Type 0} (f : S → List ℕ → S) (s₀ h : S) (tail : List ℕ) (total : ℕ) (m : List ℕ) → Taken f s₀ h tail total m → length tail ≡ total % 64
+pub absorb-end : {S : Type 0} (f : S → List ℕ → S) (s₀ h : S) (tail : List ℕ) (total : ℕ) (m : List ℕ) → Taken f s₀ h tail total m
+    → length tail ≡ total % 64
     → absorb f (length (tail ++ padding total) / 64) h (tail ++ padding total) ≡ absorb f (length (padded m) / 64) s₀ (padded m)
 unfolding padded
 absorb-end f s₀ h tail total m k et =

@@ -113,7 +113,8 @@ pub ending-fits : (n t : ℕ) → t ≡ n % 64 → t + (zerosFor n + 9) ≤ 128
 unfolding zerosFor
 ending-fits n t e = omega arith
 
-pub ending-law : (t b p q : List ℕ) (n at high low : ℕ) → length t ≡ n % 64 → length b ≡ 128 → b ≡ t ++ (0x80 ∷ replicate (127 - length t) 0)
+pub ending-law : (t b p q : List ℕ) (n at high low : ℕ) → length t ≡ n % 64 → length b ≡ 128
+    → b ≡ t ++ (0x80 ∷ replicate (127 - length t) 0)
     → at ≡ length t + zerosFor n + 1 → p ≡ sets b at (bytes32 high) → q ≡ sets p (at + 4) (bytes32 low)
     → high ≡ n / 536870912 % 2 ^ 32 → low ≡ n % 536870912 * 8 → take (length t + (zerosFor n + 9)) q ≡ t ++ padding n
 unfolding padding lengthBlock

@@ -48,7 +48,8 @@ final-refused a e n = go (isGood a) (isA 3 a) n e
     go false c k q = q
 
 -- what holds of A0 to A4, and of every answer that is an H with no values, holds of every answer
-pub answer-cases : (P : Answer → Type 0) → ((n : ℕ) → P (Good n)) → ((s : SlotNo) → P (Parked s)) → P Run → ((s : Sense) → P (Check s)) → P Full
+pub answer-cases : (P : Answer → Type 0) → ((n : ℕ) → P (Good n)) → ((s : SlotNo) → P (Parked s)) → P Run → ((s : Sense) → P (Check s))
+    → P Full
     → ((a : Answer) (n : ℕ) → n < 16 → paperOf a ≡ record { no = H n; values = [] } → P a) → (a : Answer) → P a
 answer-cases P good parked run check full h (Good n) = good n
 answer-cases P good parked run check full h (Parked s) = parked s

@@ -1,5 +1,5 @@
--- What document 01's number of an answer says of it ("What a call gets and gives"): whether it is GOOD, whether it is final, and the values that
--- a caller reads off.
+-- What document 01's number of an answer says of it ("What a call gets and gives"): whether it is GOOD, whether it is final, and the
+-- values that a caller reads off.
 use mathlib.Core.Bool.{Bool, true, false}
 use Prim.Native.Nat.{ℕ}
 use lib.Dec.{eqb}

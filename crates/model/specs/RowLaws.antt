@@ -109,7 +109,8 @@ entry-decides e w v h = rw h
 
 -- the page counts only for a code that goes by page
 pub page-ignored : (code p q : ℕ) → byPage code ≡ false → needOf code p ≡ needOf code q
-page-ignored code p q h = need-by-entry code p ∙ entry-decides (entryOf code) _ _ (ne-eqb (entryOf code) 2 other) ∙ sym (need-by-entry code q)
+page-ignored code p q h =
+    need-by-entry code p ∙ entry-decides (entryOf code) _ _ (ne-eqb (entryOf code) 2 other) ∙ sym (need-by-entry code q)
   where
     other : entryOf code ≡ 2 → ⊥
     other e = let b = entry-by-page code e in let z : _≡_ {A = ℕ} 0 1 = cc in omega arith
@@ -142,7 +143,8 @@ listed-by-need code page = go (byPage code) refl
 pub page-code : (code : ℕ) → byPage code ≡ true → (code ≡ protocolIn → ⊥) → code ≡ protocolOut
 page-code code e n = go (eqb code protocolIn) (eqb code protocolOut) (λ q. eqb-true code protocolIn q) (λ q. eqb-true code protocolOut q) e
   where
-    go : (a b : Bool) → (a ≡ true → code ≡ protocolIn) → (b ≡ true → code ≡ protocolOut) → either a (either b false) ≡ true → code ≡ protocolOut
+    go : (a b : Bool) → (a ≡ true → code ≡ protocolIn) → (b ≡ true → code ≡ protocolOut) → either a (either b false) ≡ true
+        → code ≡ protocolOut
     go true b p q k = absurd (n (p refl))
     go false true p q k = q refl
     go false false p q k = let z : _≡_ {A = ℕ} 0 1 = cc in absurd (omega arith)

@@ -74,7 +74,8 @@ module _ (s : Seen) (c token : List ℕ) (clock : ℕ) where
 
   close-byte : (d : List ℕ) → closeReason s c token d clock < 256
   unfolding closeReason listTests
-  close-byte d = first-byte (openTests s c token clock ++ listTests c d) (bytes-append (openTests s c token clock) (listTests c d) open-bytes (omega arith))
+  close-byte d =
+      first-byte (openTests s c token clock ++ listTests c d) (bytes-append (openTests s c token clock) (listTests c d) open-bytes (omega arith))
 
 key-byte : (r : ℕ) → Byte (senseKey r)
 unfolding senseKey
@@ -131,7 +132,8 @@ module _ (l : Lent) (k : Asked) (clock : ℕ) where
       (record { same = judged-back s (k .command) [] (openReason s (k .command) (k .token) clock) (open-byte s (k .command) (k .token) clock) }))
       (record { same = paper-back H2 tt })) (record { same = paper-back H1 tt }) .same
 
-pub close-back : (l : Lent) (s : ℕ) (d : List ℕ) (clock : ℕ) → paperIn (packedPaper (closeOut l s d clock .answer)) ≡ closeOut l s d clock .answer
+pub close-back : (l : Lent) (s : ℕ) (d : List ℕ) (clock : ℕ)
+    → paperIn (packedPaper (closeOut l s d clock .answer)) ≡ closeOut l s d clock .answer
 unfolding closeOut whole
 close-back l s d clock =
     let k = heldBy (slotAt s (l .tabled .slots)) in
@@ -165,4 +167,5 @@ abort-back slots s =
 
 pub reset-back : (slots : List ℕ) → paperIn (packedPaper (resetOut slots .answer)) ≡ resetOut slots .answer
 unfolding resetOut
-reset-back slots = pick-holds Back (eqb (length slots) 8192) _ _ (back (Good 0) (allFreed slots) (omega arith, (omega arith, tt))) (back H1 slots tt) .same
+reset-back slots =
+    pick-holds Back (eqb (length slots) 8192) _ _ (back (Good 0) (allFreed slots) (omega arith, (omega arith, tt))) (back H1 slots tt) .same

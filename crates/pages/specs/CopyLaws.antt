@@ -10,7 +10,8 @@ use lib.Seq.{paste-suc, length-take-le}
 use Rattle.wire.specs.Bytes.{patch}
 
 -- one byte more
-pub copy-more : (d s : List ℕ) (i b : ℕ) → i < length s → i < length d → b ≡ getD s i 0 → set (take i s ++ drop i d) i b ≡ take (i + 1) s ++ drop (i + 1) d
+pub copy-more : (d s : List ℕ) (i b : ℕ) → i < length s → i < length d → b ≡ getD s i 0
+    → set (take i s ++ drop i d) i b ≡ take (i + 1) s ++ drop (i + 1) d
 copy-more d s i b hs hd e = rw (add-one i, e) (simp zero-add at (paste-suc d 0 s i 0 (omega arith) hs))
 
 -- n bytes are a patch

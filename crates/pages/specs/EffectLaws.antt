@@ -216,11 +216,13 @@ module _ (value rec : List ℕ) (full : length rec ≡ 512) where
 
   pub exchanged-next-auth : nextAuthKey (exchanged value rec) ≡ nextAuth value rec
   unfolding nextAuthKey
-  exchanged-next-auth = exchange .second-part 0 20 (omega arith) ∙ first-of (nextAuth value rec) (nextGen value rec) auth-length generation-length
+  exchanged-next-auth =
+      exchange .second-part 0 20 (omega arith) ∙ first-of (nextAuth value rec) (nextGen value rec) auth-length generation-length
 
   pub exchanged-next-generation : nextGenKey (exchanged value rec) ≡ nextGen value rec
   unfolding nextGenKey
-  exchanged-next-generation = exchange .second-part 20 20 (omega arith) ∙ second-of (nextAuth value rec) (nextGen value rec) auth-length generation-length
+  exchanged-next-generation =
+      exchange .second-part 20 20 (omega arith) ∙ second-of (nextAuth value rec) (nextGen value rec) auth-length generation-length
 
   pub exchanged-used : (u : ℕ) → unitStateOf u rec ≡ Used → unitStateOf u (exchanged value rec) ≡ Used
   exchanged-used u sound =
@@ -271,7 +273,8 @@ module _ (rec : List ℕ) (full : length rec ≡ 512) where
   -- outside mask and step
   cleared-alike : (c d : ℕ) → (d ≤ 6) ⊎ (8 ≤ c) → (d ≤ 12) ⊎ (16 ≤ c) → Alike c d cleared rec
   unfolding cleared unmasked bytesOf
-  cleared-alike c d p q = alike-trans (patch-alike unmasked 12 (bytesOf 4 0) fits-step c d q) (patch-alike rec 6 (bytesOf 2 0) fits-mask c d p)
+  cleared-alike c d p q =
+      alike-trans (patch-alike unmasked 12 (bytesOf 4 0) fits-step c d q) (patch-alike rec 6 (bytesOf 2 0) fits-mask c d p)
 
   -- and below the keys too
   changed-alike : (c d : ℕ) → d ≤ 32 → (d ≤ 6) ⊎ (8 ≤ c) → (d ≤ 12) ⊎ (16 ≤ c) → Alike c d (changed rec) rec
@@ -298,7 +301,8 @@ module _ (rec : List ℕ) (full : length rec ≡ 512) where
 
   pub changed-generation : genKey (changed rec) ≡ nextGenKey rec
   unfolding genKey
-  changed-generation = change .first-part 20 20 (omega arith) ∙ second-of (nextAuthKey rec) (nextGenKey rec) next-auth-length next-generation-length
+  changed-generation =
+      change .first-part 20 20 (omega arith) ∙ second-of (nextAuthKey rec) (nextGenKey rec) next-auth-length next-generation-length
 
   pub changed-mask : mask (changed rec) ≡ 0
   unfolding mask cleared unmasked number bytesOf
@@ -357,7 +361,8 @@ module _ (page : ℕ) (d keys : List ℕ) where
   picked P x y p true e f g = f (eqb-true page p e)
   picked P x y p false e f g = g
 
-  new-holds : (P : List ℕ → Type 0) → (page ≡ setKey → P (workingKeySet (newVersion d) (seed d) keys)) → P (exchanged (agreed d) keys) → P (changed keys)
+  new-holds : (P : List ℕ → Type 0) → (page ≡ setKey → P (workingKeySet (newVersion d) (seed d) keys)) → P (exchanged (agreed d) keys)
+      → P (changed keys)
       → P keys → P (newKeys page d keys)
   unfolding newKeys
   new-holds P k e c same =

@@ -1,5 +1,5 @@
--- What a GOOD Out page makes of a unit's attributes and of a key set (document 01, "Pages", Effects): all that is not named is kept, and the
--- check is made anew.
+-- What a GOOD Out page makes of a unit's attributes and of a key set (document 01, "Pages", Effects): all that is not named is kept, and
+-- the check is made anew.
 use mathlib.Core.List.{List, [], _∷_, _++_}
 use Prim.Native.Nat.{ℕ, _+_, _-_, _/_, _%_, _^_}
 use lib.Dec.{eqb}
@@ -47,8 +47,8 @@ exchanged value rec = seal (withNextPair (nextAuth value rec) (nextGen value rec
 unfoldable pub changed : List ℕ → List ℕ
 changed rec = seal (withoutNextAndWorking (withPair (nextAuthKey rec) (nextGenKey rec) (withStep 0 (withMask 0 rec))))
 
--- what a page with the parameter list d makes of a key set: Set Key, Seed Exchange and Change make its record anew, and any other page leaves
--- it alone
+-- what a page with the parameter list d makes of a key set: Set Key, Seed Exchange and Change make its record anew, and any other page
+-- leaves it alone
 unfoldable pub newKeys : ℕ → List ℕ → List ℕ → List ℕ
 newKeys page d keys =
     pick (eqb page setKey) (workingKeySet (newVersion d) (seed d) keys)

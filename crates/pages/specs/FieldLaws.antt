@@ -162,7 +162,8 @@ module _ {old new : List ℕ} (full : length old ≡ 512) (long : length new ≡
 
 -- soundness is kept: what the frame leaves open is shown of the new record
 module _ {u : ℕ} {old new : List ℕ} (s : Shape u old) where
-  pub used-kept : checked new ≡ true → SameFrame old new → method new ≤ 1 → step new ≤ 1 → either (eqb (step new) 1) (nextPairZero new) ≡ true
+  pub used-kept : checked new ≡ true → SameFrame old new → method new ≤ 1 → step new ≤ 1
+      → either (eqb (step new) 1) (nextPairZero new) ≡ true
       → ((v : ℕ) → v < 16 → ValidOrZero new v) → unitStateOf u new ≡ Used
   used-kept sealed f hm hs hp hk =
       used-of u new sealed

@@ -49,7 +49,8 @@ module _ {c d : ℕ} {l m : List ℕ} (same : Alike c d l m) where
       small i g = let j = simp length-take at g in omega arith
 
 -- outside a patch, and below the check
-pub patch-alike : (xs : List ℕ) (a : ℕ) (ys : List ℕ) → a + length ys ≤ length xs → (c d : ℕ) → (d ≤ a) ⊎ (a + length ys ≤ c) → Alike c d (patch xs a ys) xs
+pub patch-alike : (xs : List ℕ) (a : ℕ) (ys : List ℕ) → a + length ys ≤ length xs → (c d : ℕ) → (d ≤ a) ⊎ (a + length ys ≤ c)
+    → Alike c d (patch xs a ys) xs
 patch-alike xs a ys fits c d apart =
     record { bytes = λ i h k. at-outside xs a ys fits i (⊎-elim (λ g. inl (omega arith)) (λ g. inr (omega arith)) apart) }
 

@@ -22,9 +22,11 @@ use Rattle.runs.specs.Ledger.{ledgerOf, starts, Done, commandOf, dones}
 use Rattle.runs.specs.History.{KeySet, startKeys, versionSet, seedExchanged, masterChanged, keyCommand, isKeyCommand, history, keySaid, NoneSets}
 use Rattle.runs.specs.Engineer.{keyless-refused}
 
-history-append : (units : List ℕ) (u : ℕ) (xs ys : List Done) (k : KeySet) → history units u k (xs ++ ys) ≡ history units u (history units u k xs) ys
+history-append : (units : List ℕ) (u : ℕ) (xs ys : List Done) (k : KeySet)
+    → history units u k (xs ++ ys) ≡ history units u (history units u k xs) ys
 history-append units u [] ys k = refl
-history-append units u (x ∷ xs) ys k = history-append units u xs ys (pick (isKeyCommand units u x) (keyCommand (pageOf (x .what .command)) (x .sent) k) k)
+history-append units u (x ∷ xs) ys k =
+    history-append units u xs ys (pick (isKeyCommand units u x) (keyCommand (pageOf (x .what .command)) (x .sent) k) k)
 
 -- a version without a key stays so
 command-keeps : (page v : ℕ) (d : List ℕ) (k : KeySet) → k .working v ≡ none → both (eqb page setKey) (eqb v (newVersion d)) ≡ false
@@ -39,7 +41,8 @@ command-keeps page v d k n s = by-page (eqb page setKey) (eqb page seedExchange)
     by-page false false true w e q = refl
     by-page false false false w e q = n
 
-stays-none : (units : List ℕ) (u v : ℕ) (xs : List Done) (k : KeySet) → k .working v ≡ none → NoneSets units u v xs → history units u k xs .working v ≡ none
+stays-none : (units : List ℕ) (u v : ℕ) (xs : List Done) (k : KeySet) → k .working v ≡ none → NoneSets units u v xs
+    → history units u k xs .working v ≡ none
 stays-none units u v [] k n s = n
 stays-none units u v (x ∷ xs) k n s = stays-none units u v xs _ (one (isKeyCommand units u x) (s .0)) (s .1)
   where
@@ -63,13 +66,14 @@ working-said : (k : KeySet) (master change : Bool) (v : ℕ) → master ≡ fals
 unfolding keySaid
 working-said k master change v e = rw e
 
--- at any step of any run from sound tables, a GOOD Change in the key set of the command's unit among the commands before it, and no GOOD Set Key
--- of the command's version there since: a guarded command of a working row is refused where CAPKEY rules
+-- at any step of any run from sound tables, a GOOD Change in the key set of the command's unit among the commands before it, and no GOOD
+-- Set Key of the command's version there since: a guarded command of a working row is refused where CAPKEY rules
 pub ended-by-change :
     (t : Tables) (es : List Event) (m : Tables) (sound : SoundTables t) (ran : Ran t es m) (k : Call) (a : Answer) (r : List ℕ) (n : Tables)
     (meets : Meets m k a r n) (command : isCommand k ≡ true) (formed : isMalformed a ≡ false) (x : Asked)
     (about : commandOf (ledgerOf (starts (t .slots)) es) k ≡ some x) (xs : List Done) (y : Done) (ys : List Done)
-    → rulesFor (unitAt (x .unit) (m .units)) (x .command) ≡ true → isOpenRow (needFor (x .command)) ≡ false → isMaster (needFor (x .command)) ≡ false
+    → rulesFor (unitAt (x .unit) (m .units)) (x .command) ≡ true → isOpenRow (needFor (x .command)) ≡ false
+    → isMaster (needFor (x .command)) ≡ false
     → dones (starts (t .slots)) es ≡ xs ++ (y ∷ ys)
     → isKeyCommand (t .units) (x .unit) y ≡ true → pageOf (y .what .command) ≡ changeMaster
     → NoneSets (t .units) (x .unit) (keyVersion (descriptorOf (x .command))) ys

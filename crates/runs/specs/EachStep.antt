@@ -1,6 +1,6 @@
--- What each step of a run answers, by the ledger: at any step of any run from sound tables, every call gets the answer and leaves the reply that
--- `expected` says, from the unit table and the ledger alone; and whatever was parked stays in the ledger until its own close, abort or a
--- reset is answered finally.
+-- What each step of a run answers, by the ledger: at any step of any run from sound tables, every call gets the answer and leaves the
+-- reply that `expected` says, from the unit table and the ledger alone; and whatever was parked stays in the ledger until its own close,
+-- abort or a reset is answered finally.
 use mathlib.Core.Path.{_≡_, refl, sym, ap, _∙_, subst}
 use mathlib.Core.Logic.{_⊎_, inl, inr}
 use mathlib.Core.Bool.{Bool, true, false}
@@ -79,7 +79,8 @@ module _ (slots : List ℕ) (ledger : Ledger) (agrees : Agrees slots ledger) whe
   unfolding holds
   entry-held s h = by-leb (leb s 15) refl h
     where
-      by-leb : (b : Bool) → leb s 15 ≡ b → both b (isOpen (slotStateOf (slotAt s slots))) ≡ true → pick b (ledger s) none ≡ some (heldBy (slotAt s slots))
+      by-leb : (b : Bool) → leb s 15 ≡ b → both b (isOpen (slotStateOf (slotAt s slots))) ≡ true
+          → pick b (ledger s) none ≡ some (heldBy (slotAt s slots))
       by-leb true e q = ledger-holds slots ledger agrees s (rw (e, q))
       by-leb false e q = let z : _≡_ {A = ℕ} 0 1 = cc in absurd (omega arith)
 
@@ -88,7 +89,8 @@ module _ (slots : List ℕ) (ledger : Ledger) (agrees : Agrees slots ledger) whe
   entry-none s h = by-leb (leb s 15) refl h
     where
       by-leb : (b : Bool) → leb s 15 ≡ b → both b (isOpen (slotStateOf (slotAt s slots))) ≡ false → pick b (ledger s) none ≡ none
-      by-leb true e q = let k = leb-true s 15 e in state-shut (slotStateOf (slotAt s slots)) (slotAt s slots) (ledger s) (agrees s (omega arith)) q
+      by-leb true e q =
+          let k = leb-true s 15 e in state-shut (slotStateOf (slotAt s slots)) (slotAt s slots) (ledger s) (agrees s (omega arith)) q
       by-leb false e q = refl
 
 -- ---- one call
@@ -125,7 +127,8 @@ module _ (t : Tables) (ledger : Ledger) (fit : Fits t ledger) where
         (λ h g p e. let w = whole (t .units) k [] clock in
         as-known a (w .answer) r (patch reply 0 (w .written)) n (tables (w .units) (t .slots)) x e (rw (right-reply reply true h, g, p)))
 
-  close-as : (s : ℕ) (d : List ℕ) (clock : ℕ) (reply : List ℕ) (a : Answer) (r : List ℕ) (n : Tables) → Meets t (closes s d clock reply) a r n
+  close-as : (s : ℕ) (d : List ℕ) (clock : ℕ) (reply : List ℕ) (a : Answer) (r : List ℕ) (n : Tables)
+      → Meets t (closes s d clock reply) a r n
       → As (closeExpected (t .units) ledger s d clock reply) a r
   unfolding closeExpected
   close-as s d clock reply a r n =
@@ -140,7 +143,8 @@ module _ (t : Tables) (ledger : Ledger) (fit : Fits t ledger) where
   unfolding abortOut
   abort-as s a r n m = by-cases (holds (t .slots) s) refl (rw (eq-eqb _ _ (fit .slots-length)) at (m .0))
     where
-      by-cases : (b : Bool) → holds (t .slots) s ≡ b → leaves a (n .slots) ≡ pick b (leaves (Good 0) (freed s (t .slots))) (leaves H3 (t .slots))
+      by-cases : (b : Bool) → holds (t .slots) s ≡ b
+          → leaves a (n .slots) ≡ pick b (leaves (Good 0) (freed s (t .slots))) (leaves H3 (t .slots))
           → As (says (abortedAs (entryAt ledger s)) []) a r
       by-cases true q e =
           record { answer = one-table a (Good 0) (n .slots) _ _ e refl .0 ∙ ap abortedAs (sym (entry-held (t .slots) ledger (fit .agrees) s q)); reply = m .2 }
@@ -160,7 +164,8 @@ module _ (t : Tables) (ledger : Ledger) (fit : Fits t ledger) where
 
 -- ---- A1 and A4 are for commands that nothing refuses
 
-open-waits : (units : List ℕ) (ledger : Ledger) (k : Asked) (clock : ℕ) (reply : List ℕ) → isFinal (openExpected units ledger k clock reply .answer) ≡ false
+open-waits : (units : List ℕ) (ledger : Ledger) (k : Asked) (clock : ℕ) (reply : List ℕ)
+    → isFinal (openExpected units ledger k clock reply .answer) ≡ false
     → isMalformed (openExpected units ledger k clock reply .answer) ≡ false → reasonAtOpen units k clock ≡ 0
 unfolding openExpected
 open-waits units ledger k clock reply =
@@ -174,19 +179,23 @@ open-waits units ledger k clock reply =
     (λ a f h. no-true h)
 
 close-ends : (units : List ℕ) (ledger : Ledger) (s : ℕ) (d : List ℕ) (clock : ℕ) (reply : List ℕ)
-    → isMalformed (closeExpected units ledger s d clock reply .answer) ≡ false → isFinal (closeExpected units ledger s d clock reply .answer) ≡ true
+    → isMalformed (closeExpected units ledger s d clock reply .answer) ≡ false
+    → isFinal (closeExpected units ledger s d clock reply .answer) ≡ true
 unfolding closeExpected
 close-ends units ledger s d clock reply =
     pick-cases (λ (x : Expected). isMalformed (x .answer) ≡ false → isFinal (x .answer) ≡ true) (eqb (length reply) 512) _ _
     (λ a. by-entry (entryAt ledger s)) (λ a h. no-true h)
   where
-    by-entry : (o : Option Asked) → isMalformed (closedAs units d clock reply o .answer) ≡ false → isFinal (closedAs units d clock reply o .answer) ≡ true
+    by-entry : (o : Option Asked) → isMalformed (closedAs units d clock reply o .answer) ≡ false
+        → isFinal (closedAs units d clock reply o .answer) ≡ true
     by-entry none h = no-true h
     by-entry (some k) h = whole-final units k d clock
 
 waits : (units : List ℕ) (ledger : Ledger) (k : Call) (x : Asked) → isCommand k ≡ true → commandOf ledger k ≡ some x
-    → isFinal (expected units ledger k .answer) ≡ false → isMalformed (expected units ledger k .answer) ≡ false → reasonAtOpen units x (clockOf k) ≡ 0
-waits units ledger (opens k clock reply) x c e f h = let same : k ≡ x = cc in subst (λ (y : Asked). reasonAtOpen units y clock ≡ 0) same (open-waits units ledger k clock reply f h)
+    → isFinal (expected units ledger k .answer) ≡ false → isMalformed (expected units ledger k .answer) ≡ false
+    → reasonAtOpen units x (clockOf k) ≡ 0
+waits units ledger (opens k clock reply) x c e f h =
+    let same : k ≡ x = cc in subst (λ (y : Asked). reasonAtOpen units y clock ≡ 0) same (open-waits units ledger k clock reply f h)
 waits units ledger (closes s d clock reply) x c e f h = no-true (sym (close-ends units ledger s d clock reply h) ∙ f)
 waits units ledger (aborts s) x c e f h = no-true (sym c)
 waits units ledger resets x c e f h = no-true (sym c)
@@ -205,7 +214,8 @@ from-least (suc n) i ledger s e = by-entry (isVacant (ledger i)) refl e (from-le
 
 -- an open parks where the ledger has nothing
 open-vacant : (units : List ℕ) (ledger : Ledger) (k : Asked) (clock : ℕ) (reply : List ℕ)
-    → isA 1 (openExpected units ledger k clock reply .answer) ≡ true → isVacant (ledger (slotIn (openExpected units ledger k clock reply .answer))) ≡ true
+    → isA 1 (openExpected units ledger k clock reply .answer) ≡ true
+    → isVacant (ledger (slotIn (openExpected units ledger k clock reply .answer))) ≡ true
 unfolding openExpected leastVacant
 open-vacant units ledger k clock reply =
     let P : Expected → Type 0 = λ x. isA 1 (x .answer) ≡ true → isVacant (ledger (slotIn (x .answer))) ≡ true in
@@ -225,7 +235,8 @@ put-other : (ledger : Ledger) (s i : ℕ) (x : Option Asked) (k : Asked) → led
 put-other ledger s i x k h true e = inr (sym (eqb-true i s e))
 put-other ledger s i x k h false e = inl (rw e h)
 
-stays : (a : Answer) (b : Bool) → isFinal a ≡ b → (ledger new : Ledger) (i : ℕ) (k : Asked) (E : Type 0) → ledger i ≡ some k → (new i ≡ some k) ⊎ E
+stays : (a : Answer) (b : Bool) → isFinal a ≡ b → (ledger new : Ledger) (i : ℕ) (k : Asked) (E : Type 0) → ledger i ≡ some k
+    → (new i ≡ some k) ⊎ E
     → (pick b new ledger i ≡ some k) ⊎ (E × (isFinal a ≡ true))
 stays a true q ledger new i k E h (inl x) = inl x
 stays a true q ledger new i k E h (inr e) = inr (e, q)
@@ -245,23 +256,28 @@ module _ (t : Tables) (ledger : Ledger) (fit : Fits t ledger) (i : ℕ) (x : Ask
           let o : _≡_ {A = ℕ} 0 1 = cc in
           absurd (omega arith)
 
-  pub step-keeps : (k : Call) (a : Answer) (r : List ℕ) (n : Tables) → Meets t k a r n → (after ledger k a i ≡ some x) ⊎ (Ends k i × (isFinal a ≡ true))
+  pub step-keeps : (k : Call) (a : Answer) (r : List ℕ) (n : Tables) → Meets t k a r n
+      → (after ledger k a i ≡ some x) ⊎ (Ends k i × (isFinal a ≡ true))
   step-keeps (opens k clock reply) a r n m =
       let e = call-as t ledger fit (opens k clock reply) a r n m .answer in
       inl (not-over k a (subst (λ (y : Answer). isA 1 y ≡ true → isVacant (ledger (slotIn y)) ≡ true) (sym e) (open-vacant (t .units) ledger k clock reply)) (isA 1 a) refl)
-  step-keeps (closes s d clock reply) a r n m = stays a (isFinal a) refl ledger (put ledger s none) i x (s ≡ i) here (put-other ledger s i none x here (eqb i s) refl)
-  step-keeps (aborts s) a r n m = stays a (isFinal a) refl ledger (put ledger s none) i x (s ≡ i) here (put-other ledger s i none x here (eqb i s) refl)
+  step-keeps (closes s d clock reply) a r n m =
+      stays a (isFinal a) refl ledger (put ledger s none) i x (s ≡ i) here (put-other ledger s i none x here (eqb i s) refl)
+  step-keeps (aborts s) a r n m =
+      stays a (isFinal a) refl ledger (put ledger s none) i x (s ≡ i) here (put-other ledger s i none x here (eqb i s) refl)
   step-keeps resets a r n m = stays a (isFinal a) refl ledger (λ j. none) i x Unit here (inr tt)
 
 -- ---- at any step of any run from sound tables
 
-module _ (t : Tables) (es : List Event) (m : Tables) (sound : SoundTables t) (ran : Ran t es m) (k : Call) (a : Answer) (r : List ℕ) (n : Tables)
+module _ (t : Tables) (es : List Event) (m : Tables) (sound : SoundTables t) (ran : Ran t es m) (k : Call) (a : Answer) (r : List ℕ)
+    (n : Tables)
     (meets : Meets m k a r n) where
   pub each-step : As (expected (m .units) (ledgerOf (starts (t .slots)) es) k) a r
   each-step = call-as m (ledgerOf (starts (t .slots)) es) (run-fits t es m sound ran) k a r n meets
 
   -- an open or a close that is neither refused for its form nor answered finally is about a command that nothing refuses
-  pub waiting-passes : (x : Asked) → isCommand k ≡ true → commandOf (ledgerOf (starts (t .slots)) es) k ≡ some x → isFinal a ≡ false → isMalformed a ≡ false
+  pub waiting-passes : (x : Asked) → isCommand k ≡ true → commandOf (ledgerOf (starts (t .slots)) es) k ≡ some x → isFinal a ≡ false
+      → isMalformed a ≡ false
       → reasonAtOpen (m .units) x (clockOf k) ≡ 0
   waiting-passes x c e f h =
       let q = each-step .answer in

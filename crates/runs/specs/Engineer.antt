@@ -1,6 +1,6 @@
--- The line engineer's case, by name: what holds at any step of any run from sound tables. A step is an open, or the close of a parked command,
--- whatever held when that was opened, that was not refused for its form; x is the command that it is about. Refused means CHECK CONDITION: so it
--- is neither GOOD, nor parked, nor told that the task set is full.
+-- The line engineer's case, by name: what holds at any step of any run from sound tables. A step is an open, or the close of a parked
+-- command, whatever held when that was opened, that was not refused for its form; x is the command that it is about. Refused means CHECK
+-- CONDITION: so it is neither GOOD, nor parked, nor told that the task set is full.
 use mathlib.Core.Path.{_≡_, refl, sym, ap, _∙_, subst}
 use mathlib.Core.Logic.{⊎-elim}
 use mathlib.Core.Bool.{Bool, true, false}
@@ -36,7 +36,8 @@ some-same : {A : Type 0} (p q : A) → some p ≡ some q → p ≡ q
 some-same p q e = cc
 
 -- the step is an open or a close that was not refused for its form, and x its command
-module _ (t : Tables) (es : List Event) (m : Tables) (sound : SoundTables t) (ran : Ran t es m) (k : Call) (a : Answer) (r : List ℕ) (n : Tables)
+module _ (t : Tables) (es : List Event) (m : Tables) (sound : SoundTables t) (ran : Ran t es m) (k : Call) (a : Answer) (r : List ℕ)
+    (n : Tables)
     (meets : Meets m k a r n) (command : isCommand k ≡ true) (formed : isMalformed a ≡ false) (x : Asked)
     (about : commandOf (ledgerOf (starts (t .slots)) es) k ≡ some x) where
   abbrev Refusing : Type 0
@@ -64,8 +65,8 @@ module _ (t : Tables) (es : List Event) (m : Tables) (sound : SoundTables t) (ra
       let o : _≡_ {A = ℕ} 0 1 = cc in
       omega arith)
 
-  -- ---- a command that does not skip 6 to 15 is judged by what stands when its data come: that is every command but open rows, and bare ones on a
-  -- NOSEC unit that are no master rows
+  -- ---- a command that does not skip 6 to 15 is judged by what stands when its data come: that is every command but open rows, and bare
+  -- ones on a NOSEC unit that are no master rows
 
   module _ (judged : skipsGuard (unitAt (x .unit) (m .units)) (x .command) ≡ false) where
     facts : openReason (seen (m .units) (x .unit)) (x .command) (x .token) (clockOf k) ≡ 0
@@ -73,12 +74,14 @@ module _ (t : Tables) (es : List Event) (m : Tables) (sound : SoundTables t) (ra
     facts z = guarded-facts (seen (m .units) (x .unit)) (x .command) (x .token) (clockOf k) z judged
 
     -- its capability has expired
-    pub expired-refused : (expiration (descriptorOf (x .command)) ≡ 0 → ⊥) → expiration (descriptorOf (x .command)) < clockOf k → isRefused a ≡ true
+    pub expired-refused : (expiration (descriptorOf (x .command)) ≡ 0 → ⊥) → expiration (descriptorOf (x .command)) < clockOf k
+        → isRefused a ≡ true
     expired-refused nz h =
         refused-unless (λ z. ⊎-elim nz (λ le. let e : clockOf k ≤ expiration (descriptorOf (x .command)) = le in omega arith) (facts z .unexpired))
 
     -- its tag is not the unit's, or no longer
-    pub retagged-refused : (capTag (descriptorOf (x .command)) ≡ 0 → ⊥) → (capTag (descriptorOf (x .command)) ≡ policyTag (unitAt (x .unit) (m .units)) → ⊥)
+    pub retagged-refused : (capTag (descriptorOf (x .command)) ≡ 0 → ⊥)
+        → (capTag (descriptorOf (x .command)) ≡ policyTag (unitAt (x .unit) (m .units)) → ⊥)
         → isRefused a ≡ true
     retagged-refused nz ne = refused-unless (λ z. ⊎-elim nz ne (facts z .tagged))
 

@@ -56,8 +56,8 @@ abbrev pub parkedAt : Found → Answer
 parkedAt (At s) = Parked s
 parkedAt Nothing = Full
 
--- an open: H1 for a reply of the wrong length, else H2 for a token of the wrong length; a command that passes and carries data out gets A1 with
--- the least vacant slot, or A4 where none is; any other its whole command's answer and reply
+-- an open: H1 for a reply of the wrong length, else H2 for a token of the wrong length; a command that passes and carries data out gets
+-- A1 with the least vacant slot, or A4 where none is; any other its whole command's answer and reply
 unfoldable pub openExpected : List ℕ → Ledger → Asked → ℕ → List ℕ → Expected
 openExpected units ledger k clock reply =
     pick (eqb (length reply) 512)

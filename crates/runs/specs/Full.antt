@@ -1,4 +1,5 @@
--- Demand 3: "task set full" exactly when a data-out command passes and no free slot is left, by the ledger; and no call but an open gives it.
+-- Demand 3: "task set full" exactly when a data-out command passes and no free slot is left, by the ledger; and no call but an open gives
+-- it.
 use mathlib.Core.Path.{_≡_, refl, sym, ap, _∙_}
 use mathlib.Core.Bool.{Bool, true, false}
 use mathlib.Core.Option.{Option, none, some}
@@ -33,7 +34,8 @@ use Rattle.runs.specs.EachStep.{each-step}
 
 -- ---- no slot is vacant exactly where the search finds none
 
-none-vacant : (n i : ℕ) (ledger : Ledger) → ((j : ℕ) → i ≤ j → j < i + n → (k : Asked) × (ledger j ≡ some k)) → vacantFrom n i ledger ≡ Nothing
+none-vacant : (n i : ℕ) (ledger : Ledger) → ((j : ℕ) → i ≤ j → j < i + n → (k : Asked) × (ledger j ≡ some k))
+    → vacantFrom n i ledger ≡ Nothing
 unfolding vacantFrom
 none-vacant zero i ledger h = refl
 none-vacant (suc n) i ledger h =
@@ -82,7 +84,8 @@ module _ (units : List ℕ) (ledger : Ledger) (k : Asked) (clock : ℕ) (reply :
 
 -- ---- no other call gives it
 
-close-not-full : (units : List ℕ) (ledger : Ledger) (s : ℕ) (d : List ℕ) (clock : ℕ) (reply : List ℕ) → isA 4 (closeExpected units ledger s d clock reply .answer) ≡ false
+close-not-full : (units : List ℕ) (ledger : Ledger) (s : ℕ) (d : List ℕ) (clock : ℕ) (reply : List ℕ)
+    → isA 4 (closeExpected units ledger s d clock reply .answer) ≡ false
 unfolding closeExpected
 close-not-full units ledger s d clock reply =
     pick-cases (λ (x : Expected). isA 4 (x .answer) ≡ false) (eqb (length reply) 512) _ _ (λ a. by-entry (entryAt ledger s)) (λ a. refl)

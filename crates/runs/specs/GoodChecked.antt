@@ -51,7 +51,8 @@ key-said keys k says false change v h e = says .working v h ∙ found-some (isVa
 
 -- ---- a whole command that is GOOD was refused for nothing
 
-good-none : (units : List ℕ) (k : Asked) (d : List ℕ) (clock : ℕ) → isGood (whole units k d clock .answer) ≡ true → wholeReason units k d clock ≡ 0
+good-none : (units : List ℕ) (k : Asked) (d : List ℕ) (clock : ℕ) → isGood (whole units k d clock .answer) ≡ true
+    → wholeReason units k d clock ≡ 0
 unfolding refusal
 good-none units k d clock =
     whole-cases units k d clock (λ (w : Whole). isGood (w .answer) ≡ true → wholeReason units k d clock ≡ 0)
@@ -99,7 +100,8 @@ one-done (closes s d clock reply) a e f = rw f
 one-done (aborts s) a e f = let z : _≡_ {A = ℕ} 0 1 = cc in absurd (omega arith)
 one-done resets a e f = let z : _≡_ {A = ℕ} 0 1 = cc in absurd (omega arith)
 
-step-answers : (t : Tables) (ledger : Ledger) (k : Call) (a : Answer) (r : List ℕ) (n : Tables) → Stepped t ledger k a r n → isCommand k ≡ true
+step-answers : (t : Tables) (ledger : Ledger) (k : Call) (a : Answer) (r : List ℕ) (n : Tables) → Stepped t ledger k a r n
+    → isCommand k ≡ true
     → isFinal a ≡ true → FinalAnswer t ledger k a
 step-answers t ledger k a r n s e f = by-command (commandOf ledger k) refl
   where
@@ -111,7 +113,8 @@ step-answers t ledger k a r n s e f = by-command (commandOf ledger k) refl
 
 -- ---- after any run from sound tables, of any open or close that is answered GOOD
 
-module _ (t : Tables) (es : List Event) (m : Tables) (sound : SoundTables t) (ran : Ran t es m) (k : Call) (a : Answer) (r : List ℕ) (n : Tables)
+module _ (t : Tables) (es : List Event) (m : Tables) (sound : SoundTables t) (ran : Ran t es m) (k : Call) (a : Answer) (r : List ℕ)
+    (n : Tables)
     (meets : Meets m k a r n) where
   abbrev ledger : Ledger
   ledger = ledgerOf (starts (t .slots)) es
@@ -128,7 +131,8 @@ module _ (t : Tables) (es : List Event) (m : Tables) (sound : SoundTables t) (ra
   pub ruled-checked : (x : Asked) → openReason (seen (m .units) (x .unit)) (x .command) (x .token) (clockOf k) ≡ 0
       → rulesFor (unitAt (x .unit) (m .units)) (x .command) ≡ true → isOpenRow (needFor (x .command)) ≡ false
       → CheckedBy (unitAt (x .unit) (m .units)) (keysBefore t es (x .unit)) x (clockOf k)
-  ruled-checked x passes rules guarded = passed-checked (m .units) x (clockOf k) (keysBefore t es (x .unit)) (says-before (x .unit)) passes rules guarded
+  ruled-checked x passes rules guarded =
+      passed-checked (m .units) x (clockOf k) (keysBefore t es (x .unit)) (says-before (x .unit)) passes rules guarded
 
   -- the command of an open or close that is answered GOOD is refused for nothing
   good-none-refuses : (e : isCommand k ≡ true) (good : isGood a ≡ true)
@@ -137,8 +141,8 @@ module _ (t : Tables) (es : List Event) (m : Tables) (sound : SoundTables t) (ra
       let w = final-answers e (good-final a good) in
       good-passes (m .units) (w .what) (sentBy k) (clockOf k) (ap isGood (w .as-whole) ∙ good)
 
-  -- each open or close answered GOOD is about one command, and where it is guarded, on a unit that was CAPKEY just before the step, it passed
-  -- every check
+  -- each open or close answered GOOD is about one command, and where it is guarded, on a unit that was CAPKEY just before the step, it
+  -- passed every check
   pub good-checked : isCommand k ≡ true → isGood a ≡ true
       → (x : Asked) × (commandOf (ledgerOf (starts (t .slots)) es) k ≡ some x)
       × (method (unitAt (x .unit) (m .units)) ≡ 1 → isOpenRow (needFor (x .command)) ≡ false

@@ -31,12 +31,14 @@ use Rattle.runs.specs.Ledger.{Done, Singly}
 use Rattle.runs.specs.History.{KeySet, Says, startKeys, versionSet, seedExchanged, masterChanged, keyCommand, isKeyCommand, history}
 
 pub says-start : (rec : List ℕ) → Says (startKeys rec) rec
-says-start rec = record { name = refl; auth = refl; generation = refl; next-auth = refl; next-generation = refl; pending = refl; working = λ v h. refl }
+says-start rec =
+    record { name = refl; auth = refl; generation = refl; next-auth = refl; next-generation = refl; pending = refl; working = λ v h. refl }
 
 -- the working keys, where they are as they were
 same-working : (k : KeySet) (old new : List ℕ) → SameWorking old new → Says k old → (v : ℕ) → v < 16
     → k .working v ≡ pick (isValid v new) (some (workingKey v new)) none
-same-working k old new w s v h = s .working v h ∙ ap₂ (λ (b : Bool) (x : List ℕ). pick b (some x) none) (sym (w .same-valid v)) (sym (w .same-key v h))
+same-working k old new w s v h =
+    s .working v h ∙ ap₂ (λ (b : Bool) (x : List ℕ). pick b (some x) none) (sym (w .same-valid v)) (sym (w .same-key v h))
 
 -- ---- each effect
 
@@ -164,9 +166,11 @@ off false = refl
 
 module _ (start us : List ℕ) (full : length us ≡ 4096) (u : ℕ) (k : KeySet) (says : Says k (keySetOf us u)) (x : Done) where
   Told : Whole → Type 0
-  Told w = w .answer ≡ x .answer → Says (pick (isKeyCommand start u x) (keyCommand (pageOf (x .what .command)) (x .sent) k) k) (keySetOf (w .units) u)
+  Told w =
+      w .answer ≡ x .answer → Says (pick (isKeyCommand start u x) (keyCommand (pageOf (x .what .command)) (x .sent) k) k) (keySetOf (w .units) u)
 
-  obeyed-says : Obeys us (x .what .unit) (pageOf (x .what .command)) (x .sent) → eqb (codeOf (x .what .command)) protocolOut ≡ true → Good 0 ≡ x .answer
+  obeyed-says : Obeys us (x .what .unit) (pageOf (x .what .command)) (x .sent) → eqb (codeOf (x .what .command)) protocolOut ≡ true
+      → Good 0 ≡ x .answer
       → Says (pick (isKeyCommand start u x) (keyCommand (pageOf (x .what .command)) (x .sent) k) k)
       (keySetOf (laid us (x .what .unit) (madeBy (seen us (x .what .unit)) (pageOf (x .what .command)) (x .sent))) u)
   unfolding keeperOf
@@ -195,12 +199,14 @@ module _ (start us : List ℕ) (full : length us ≡ 4096) (u : ℕ) (k : KeySet
       (λ z f r e. stays (rw f (off (eqb (keeperOf start (x .what .unit)) (keeperOf start u)))))
       (λ z f r e. stays (rw f (off (eqb (keeperOf start (x .what .unit)) (keeperOf start u)))))
     where
-      stays : isKeyCommand start u x ≡ false → Says (pick (isKeyCommand start u x) (keyCommand (pageOf (x .what .command)) (x .sent) k) k) (keySetOf us u)
+      stays : isKeyCommand start u x ≡ false
+          → Says (pick (isKeyCommand start u x) (keyCommand (pageOf (x .what .command)) (x .sent) k) k) (keySetOf us u)
       stays n = rw n says
 
 -- ---- any run of whole commands: the records say what the starting keys and the GOOD key commands since say
 
-pub says-run : (start : List ℕ) (xs : List Done) (us ns : List ℕ) → length us ≡ 4096 → (u : ℕ) (k : KeySet) → Says k (keySetOf us u) → Singly us xs ns
+pub says-run : (start : List ℕ) (xs : List Done) (us ns : List ℕ) → length us ≡ 4096 → (u : ℕ) (k : KeySet) → Says k (keySetOf us u)
+    → Singly us xs ns
     → Says (history start u k xs) (keySetOf ns u)
 says-run start [] us ns full u k says p = subst (λ (z : List ℕ). Says k (keySetOf z u)) p says
 says-run start (x ∷ xs) us ns full u k says p =

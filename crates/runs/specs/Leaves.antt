@@ -193,7 +193,8 @@ good-no-refusal table x a y e not-0 =
     let z : _≡_ {A = ℕ} 0 1 = cc in
     absurd (omega arith)
 
-pub build-keeps : (units : List ℕ) (u m t : ℕ) (id auth gen : List ℕ) (a : Answer) (x : List ℕ) → leaves a x ≡ buildOut units u m t id auth gen
+pub build-keeps : (units : List ℕ) (u m t : ℕ) (id auth gen : List ℕ) (a : Answer) (x : List ℕ)
+    → leaves a x ≡ buildOut units u m t id auth gen
     → isA 0 a ≡ false → x ≡ units
 unfolding buildOut
 build-keeps units u m t id auth gen =

@@ -117,7 +117,8 @@ unfolding patch
 reply-front s c reply =
     let front = take-at (replyTo s c) _ (length (replyTo s c)) refl in
     record {
-      count = reply-length (pageOf c) (lengthField c) (s .own) (s .keys) ∙ ap (min (lengthField c)) (sym (page-size (pageOf c) (s .own) (s .keys)));
+      count =
+          reply-length (pageOf c) (lengthField c) (s .own) (s .keys) ∙ ap (min (lengthField c)) (sym (page-size (pageOf c) (s .own) (s .keys)));
       front = front ∙ sym (reply-cut (pageOf c) (lengthField c) (s .own) (s .keys));
       as-many = ap length front;
     }

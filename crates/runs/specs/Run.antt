@@ -16,8 +16,9 @@ use Rattle.calls.specs.Whole.{Asked}
 use Rattle.calls.specs.Open.{openOut}
 use Rattle.calls.specs.Close.{closeOut}
 
--- ---- the calls, with any arguments. All are lent the tables of the run; one that is lent a table of another length answers H1 and leaves every
--- byte (OneRun: `wrongly-lent`), and so is harmless. Each open and close brings its own reply buffer, of any length and content
+-- ---- the calls, with any arguments. All are lent the tables of the run; one that is lent a table of another length answers H1 and
+-- leaves every byte (OneRun: `wrongly-lent`), and so is harmless. Each open and close brings its own reply buffer, of any length and
+-- content
 
 pub data Call : Type 0 where
   -- a command and a clock

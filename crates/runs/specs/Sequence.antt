@@ -1,6 +1,6 @@
--- Demand 3, the sequence: from sound records and slots that only these calls change, every sequence of opens, closes, aborts and resets gives
--- each command the final answer, and leaves the records, of whole commands run singly, each at the step that answered it and with that
--- step's clock.
+-- Demand 3, the sequence: from sound records and slots that only these calls change, every sequence of opens, closes, aborts and resets
+-- gives each command the final answer, and leaves the records, of whole commands run singly, each at the step that answered it and with
+-- that step's clock.
 use mathlib.Core.Path.{_≡_, refl, sym, ap, ap₂, _∙_, subst}
 use mathlib.Core.Bool.{false}
 use mathlib.Core.Option.{Option, none, some}
@@ -82,7 +82,8 @@ record Runs (t : Tables) (ledger : Ledger) (es : List Event) (n : Tables) : Type
   pub keeps : AllKeep es
 
 runs : (es : List Event) (t : Tables) (ledger : Ledger) (n : Tables) → Fits t ledger → Ran t es n → Runs t ledger es n
-runs [] t ledger n fit ran = record { fits = subst (λ (x : Tables). Fits x ledger) ran fit; singly = ap (λ (x : Tables). x .units) ran; counted = refl; keeps = tt }
+runs [] t ledger n fit ran =
+    record { fits = subst (λ (x : Tables). Fits x ledger) ran fit; singly = ap (λ (x : Tables). x .units) ran; counted = refl; keeps = tt }
 runs (e ∷ es) t ledger n fit (m, meets, ran) =
     let s = call-step t ledger fit (e .call) (e .answer) (e .reply) m meets in
     let r = runs es m (after ledger (e .call) (e .answer)) n (s .fits) ran in
@@ -113,14 +114,17 @@ sequence t es n sound ran =
           record {
             units-length = f .units-length;
             slots-length = f .slots-length;
-            units-sound = singly-sound (dones (starts (t .slots)) es) (t .units) (n .units) (sound .units-length) (sound .units-sound) (r .singly);
-            slots-sound = λ i h. view-sound (slotStateOf (slotAt i (n .slots))) (slotAt i (n .slots)) (ledgerOf (starts (t .slots)) es i) (f .agrees i h);
+            units-sound =
+                singly-sound (dones (starts (t .slots)) es) (t .units) (n .units) (sound .units-length) (sound .units-sound) (r .singly);
+            slots-sound =
+                λ i h. view-sound (slotStateOf (slotAt i (n .slots))) (slotAt i (n .slots)) (ledgerOf (starts (t .slots)) es i) (f .agrees i h);
           };
       replies-kept = r .keeps;
     }
 
 -- and so after every step of it: the tables that the first part of a run leaves are those of a run
-pub after-each-step : (t : Tables) (es fs : List Event) (n : Tables) → SoundTables t → Ran t (es ++ fs) n → (m : Tables) × Sequence t es m × Ran m fs n
+pub after-each-step : (t : Tables) (es fs : List Event) (n : Tables) → SoundTables t → Ran t (es ++ fs) n
+    → (m : Tables) × Sequence t es m × Ran m fs n
 after-each-step t es fs n sound ran = let p = split es t ran in (p .0, sequence t es (p .0) sound (p .1), p .2)
   where
     split : (xs : List Event) (s : Tables) → Ran s (xs ++ fs) n → (m : Tables) × Ran s xs m × Ran m fs n

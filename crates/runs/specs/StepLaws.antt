@@ -92,7 +92,8 @@ held-parked u c token hu h64 hl =
 
 view-parked : (u : ℕ) (c token : List ℕ) → u ≤ 7 → 16 ≤ length token → length token ≤ 64 → dataOut (codeOf c) ≡ true
     → legalLen (codeOf c) (length c) ≡ true → view (openRecord u c token) ≡ held (asked u c token)
-view-parked u c token hu h16 h64 hd hl = view-open (openRecord u c token) (parked-open u c token hu h16 h64 hd hl) ∙ ap held (held-parked u c token hu h64 hl)
+view-parked u c token hu h16 h64 hd hl =
+    view-open (openRecord u c token) (parked-open u c token hu h16 h64 hd hl) ∙ ap held (held-parked u c token hu h64 hl)
 
 agrees-put : (slots new : List ℕ) (ledger : Ledger) (s : ℕ) (x : Option Asked) → view (slotAt s new) ≡ toView x
     → ((j : ℕ) → (s ≡ j → ⊥) → slotAt j new ≡ slotAt j slots) → Agrees slots ledger → Agrees new (put ledger s x)
@@ -107,7 +108,8 @@ held-some : (o : Option Asked) (k : Asked) → held k ≡ toView o → o ≡ som
 held-some none k e = let z : _≡_ {A = ℕ} 0 1 = cc in absurd (omega arith)
 held-some (some x) k e = cc
 
-pub ledger-holds : (slots : List ℕ) (ledger : Ledger) → Agrees slots ledger → (s : ℕ) → holds slots s ≡ true → ledger s ≡ some (heldBy (slotAt s slots))
+pub ledger-holds : (slots : List ℕ) (ledger : Ledger) → Agrees slots ledger → (s : ℕ) → holds slots s ≡ true
+    → ledger s ≡ some (heldBy (slotAt s slots))
 ledger-holds slots ledger agrees s h =
     let p = holds-open slots s h in
     held-some (ledger s) (heldBy (slotAt s slots)) (sym (view-open (slotAt s slots) (p .1)) ∙ agrees s (p .0))
@@ -165,7 +167,8 @@ module _ (t : Tables) (ledger : Ledger) (fit : Fits t ledger) where
     answered-step =
         let f = whole-final (t .units) k [] clock in
         record {
-          fits = rw (final-not-parked (whole (t .units) k [] clock .answer) f) (record { units-length = whole-length (t .units) k [] clock (fit .units-length); slots-length = fit .slots-length; agrees = fit .agrees });
+          fits =
+              rw (final-not-parked (whole (t .units) k [] clock .answer) f) (record { units-length = whole-length (t .units) k [] clock (fit .units-length); slots-length = fit .slots-length; agrees = fit .agrees });
           singly = rw f (whole-singly (t .units) k [] clock reply);
           counted = rw f;
           reply-kept = front-kept (whole (t .units) k [] clock) reply (whole-written (t .units) k [] clock);
@@ -201,12 +204,14 @@ module _ (t : Tables) (ledger : Ledger) (fit : Fits t ledger) where
           reply-kept = none-written reply 0 refl;
         }
 
-    by-slot : (a : Answer) (r : List ℕ) (n : Tables) → rightToken (length (k .token)) ≡ true → parks (t .units) k clock ≡ true → (f : Found) → lowestFree (t .slots) ≡ f
+    by-slot : (a : Answer) (r : List ℕ) (n : Tables) → rightToken (length (k .token)) ≡ true → parks (t .units) k clock ≡ true
+        → (f : Found) → lowestFree (t .slots) ≡ f
         → gives a (lent n r) ≡ onSlots (lent t reply) (parkedIn (t .slots) k f) → Stepped t ledger (opens k clock reply) a r n
     by-slot a r n sized p (At s) f e = told t ledger (opens k clock reply) a (Parked s) r reply n _ e (parked-step sized p s f)
     by-slot a r n sized p Nothing f e = told t ledger (opens k clock reply) a Full r reply n t e (quiet Full refl refl refl)
 
-    pub open-step : (a : Answer) (r : List ℕ) (n : Tables) → gives a (lent n r) ≡ openOut (lent t reply) k clock → Stepped t ledger (opens k clock reply) a r n
+    pub open-step : (a : Answer) (r : List ℕ) (n : Tables) → gives a (lent n r) ≡ openOut (lent t reply) k clock
+        → Stepped t ledger (opens k clock reply) a r n
     open-step a r n =
         open-by (lent t reply) k clock (λ (o : Outcome). gives a (lent n r) ≡ o → Stepped t ledger (opens k clock reply) a r n)
         (λ h e. told t ledger (opens k clock reply) a H1 r reply n t e (quiet H1 refl refl refl))
@@ -248,7 +253,8 @@ module _ (t : Tables) (ledger : Ledger) (fit : Fits t ledger) where
           reply-kept = front-kept w reply (whole-written (t .units) k d clock);
         }
 
-    pub close-step : (a : Answer) (r : List ℕ) (n : Tables) → gives a (lent n r) ≡ closeOut (lent t reply) s d clock → Stepped t ledger (closes s d clock reply) a r n
+    pub close-step : (a : Answer) (r : List ℕ) (n : Tables) → gives a (lent n r) ≡ closeOut (lent t reply) s d clock
+        → Stepped t ledger (closes s d clock reply) a r n
     close-step a r n =
         close-by (lent t reply) s d clock (λ (o : Outcome). gives a (lent n r) ≡ o → Stepped t ledger (closes s d clock reply) a r n)
         (λ h e. told t ledger (closes s d clock reply) a H1 r reply n t e (kept H1 refl refl))
@@ -257,14 +263,16 @@ module _ (t : Tables) (ledger : Ledger) (fit : Fits t ledger) where
 
   -- ---- an abort and a reset
 
-  told-slots : (k : Call) (a : Answer) (r : List ℕ) (n : Tables) (b : Answer) (ss : List ℕ) → leaves a (n .slots) ≡ leaves b ss → n .units ≡ t .units
+  told-slots : (k : Call) (a : Answer) (r : List ℕ) (n : Tables) (b : Answer) (ss : List ℕ) → leaves a (n .slots) ≡ leaves b ss
+      → n .units ≡ t .units
       → Stepped t ledger k b r (tables (t .units) ss) → Stepped t ledger k a r n
   told-slots k a r n b ss e eu h =
       let p = one-table a b (n .slots) ss (leaves b ss) e refl in
       let et : tables (t .units) ss ≡ n = ap₂ tables (sym eu) (sym (p .1)) in
       subst (λ (x : Answer). Stepped t ledger k x r n) (sym (p .0)) (subst (λ (x : Tables). Stepped t ledger k b r x) et h)
 
-  pub abort-step : (s : ℕ) (a : Answer) (r : List ℕ) (n : Tables) → leaves a (n .slots) ≡ abortOut (t .slots) s → n .units ≡ t .units → r ≡ []
+  pub abort-step : (s : ℕ) (a : Answer) (r : List ℕ) (n : Tables) → leaves a (n .slots) ≡ abortOut (t .slots) s → n .units ≡ t .units
+      → r ≡ []
       → Stepped t ledger (aborts s) a r n
   unfolding abortOut
   abort-step s a r n e eu er = by-cases (holds (t .slots) s) refl (rw (eq-eqb _ _ (fit .slots-length)) at e)
@@ -274,9 +282,11 @@ module _ (t : Tables) (ledger : Ledger) (fit : Fits t ledger) where
       by-cases true q h =
           told-slots (aborts s) a r n (Good 0) (freed s (t .slots)) h eu
           (record { fits = freed-fits s (holds-open (t .slots) s q .0) (t .units) (fit .units-length); singly = refl; counted = refl; reply-kept = er })
-      by-cases false q h = told-slots (aborts s) a r n H3 (t .slots) h eu (record { fits = fit; singly = refl; counted = refl; reply-kept = er })
+      by-cases false q h =
+          told-slots (aborts s) a r n H3 (t .slots) h eu (record { fits = fit; singly = refl; counted = refl; reply-kept = er })
 
-  pub reset-step : (a : Answer) (r : List ℕ) (n : Tables) → leaves a (n .slots) ≡ resetOut (t .slots) → n .units ≡ t .units → r ≡ [] → Stepped t ledger resets a r n
+  pub reset-step : (a : Answer) (r : List ℕ) (n : Tables) → leaves a (n .slots) ≡ resetOut (t .slots) → n .units ≡ t .units → r ≡ []
+      → Stepped t ledger resets a r n
   unfolding resetOut
   reset-step a r n e eu er =
       told-slots resets a r n (Good 0) (allFreed (t .slots)) (rw (eq-eqb _ _ (fit .slots-length)) at e) eu

@@ -1,5 +1,5 @@
--- Laws of a whole command: it is what an open answers that doesn't park it; its cases; and what every one of them has: a final answer, as many
--- written bytes as its count says, a unit table of the same length, and every other unit's record as it was.
+-- Laws of a whole command: it is what an open answers that doesn't park it; its cases; and what every one of them has: a final answer, as
+-- many written bytes as its count says, a unit table of the same length, and every other unit's record as it was.
 use mathlib.Core.Path.{_≡_, refl, sym, ap, _∙_}
 use mathlib.Core.Bool.{Bool, true, false}
 use mathlib.Core.List.{List, []}
@@ -160,7 +160,8 @@ module _ (units : List ℕ) (u page : ℕ) (d : List ℕ) (o : Obeys units u pag
       ap length (w .put) ∙ record-length units (w .place) (w .bytes) (w .long) (omega arith) ∙ full
 
   -- no byte of another unit's record
-  pub laid-others : (v : ℕ) → (u ≡ v → ⊥) → (keeperOf units u ≡ v → ⊥) → unitAt v (laid units u (madeBy (seen units u) page d)) ≡ unitAt v units
+  pub laid-others : (v : ℕ) → (u ≡ v → ⊥) → (keeperOf units u ≡ v → ⊥)
+      → unitAt v (laid units u (madeBy (seen units u) page d)) ≡ unitAt v units
   laid-others v n m =
       let h = w .at in
       let full = o .full in
@@ -171,7 +172,8 @@ module _ (units : List ℕ) (u page : ℕ) (d : List ℕ) (o : Obeys units u pag
   unfolding unitState
   laid-state v = by-place (eqb (w .place) v) refl
     where
-      by-place : (b : Bool) → eqb (w .place) v ≡ b → unitStateOf v (unitAt v (laid units u (madeBy (seen units u) page d))) ≡ unitStateOf v (unitAt v units)
+      by-place : (b : Bool) → eqb (w .place) v ≡ b
+          → unitStateOf v (unitAt v (laid units u (madeBy (seen units u) page d))) ≡ unitStateOf v (unitAt v units)
       by-place true e =
           let h = w .at in
           let full = o .full in
@@ -192,7 +194,8 @@ module _ (units : List ℕ) (k : Asked) (d : List ℕ) (clock : ℕ) (full : len
       (λ z t. laid-length units (k .unit) (pageOf (k .command)) d (obeys units k d clock full z t))
       (λ z f r. full) (λ z f r. full)
 
-  pub whole-others : (v : ℕ) → (k .unit ≡ v → ⊥) → (keeperOf units (k .unit) ≡ v → ⊥) → unitAt v (whole units k d clock .units) ≡ unitAt v units
+  pub whole-others : (v : ℕ) → (k .unit ≡ v → ⊥) → (keeperOf units (k .unit) ≡ v → ⊥)
+      → unitAt v (whole units k d clock .units) ≡ unitAt v units
   whole-others v n m =
       whole-cases units k d clock (λ (w : Whole). unitAt v (w .units) ≡ unitAt v units) (λ e. refl)
       (λ z t. laid-others units (k .unit) (pageOf (k .command)) d (obeys units k d clock full z t) v n m)

@@ -20,7 +20,8 @@ use Rattle.seal.specs.SealLaws.{seal-length, seal-checked, seal-zeros}
 
 -- the SHA-1 of 492 zeros
 abbrev pub blankCheck : List ℕ
-blankCheck = 0xaa ∷ 0xc4 ∷ 0x93 ∷ 0xc3 ∷ 0xed ∷ 0x21 ∷ 0x3d ∷ 0x17 ∷ 0xb8 ∷ 0x3b ∷ 0x2e ∷ 0x8a ∷ 0x28 ∷ 0x3b ∷ 0xa5 ∷ 0xf4 ∷ 0xdd ∷ 0xf1 ∷ 0x62 ∷ 0xd4 ∷ []
+blankCheck =
+    0xaa ∷ 0xc4 ∷ 0x93 ∷ 0xc3 ∷ 0xed ∷ 0x21 ∷ 0x3d ∷ 0x17 ∷ 0xb8 ∷ 0x3b ∷ 0x2e ∷ 0x8a ∷ 0x28 ∷ 0x3b ∷ 0xa5 ∷ 0xf4 ∷ 0xdd ∷ 0xf1 ∷ 0x62 ∷ 0xd4 ∷ []
 
 -- worked out by the checker from the definition of SHA-1
 computed : sha1 (replicate 492 0) ≡ blankCheck
@@ -91,7 +92,8 @@ blank-test l full =
     (λ e. rw (e, record-zeros, record-check, same-refl blankCheck))
 
 -- the constant decides whether zeros are looked for
-pub blank-where : (l c : List ℕ) (t : Bool) → length l ≡ 512 → c ≡ blankCheck → same (part 492 20 l) c ≡ t → both t (zeros 492 0 l) ≡ same l blankRecord
+pub blank-where : (l c : List ℕ) (t : Bool) → length l ≡ 512 → c ≡ blankCheck → same (part 492 20 l) c ≡ t
+    → both t (zeros 492 0 l) ≡ same l blankRecord
 blank-where l c t full ec et = ap (λ (x : Bool). both x (zeros 492 0 l)) (sym et ∙ ap (same (part 492 20 l)) ec) ∙ blank-test l full
 
 -- zeros with the constant behind them

@@ -163,7 +163,8 @@ chain-twenty w t s s₅ s₁₀ s₁₅ s₂₀ e₅ e₁₀ e₁₅ e₂₀ =
     e₂₀ ∙ ap (rounds w (t + 15) 5) (e₁₅ ∙ ap (rounds w (t + 10) 5) (e₁₀ ∙ ap (rounds w (t + 5) 5) e₅ ∙ sym (rounds-add w t 5 5 s)) ∙ sym (rounds-add w t 10 5 s))
     ∙ sym (rounds-add w t 15 5 s)
 
-pub chain-eighty : (block : List ℕ) (h v₀ v₁ v₂ v₃ r : State) → v₀ ≡ rounds (schedule block 80) 0 20 h → v₁ ≡ rounds (schedule block 80) 20 20 v₀
+pub chain-eighty : (block : List ℕ) (h v₀ v₁ v₂ v₃ r : State) → v₀ ≡ rounds (schedule block 80) 0 20 h
+    → v₁ ≡ rounds (schedule block 80) 20 20 v₀
     → v₂ ≡ rounds (schedule block 80) 40 20 v₁ → v₃ ≡ rounds (schedule block 80) 60 20 v₂ → r ≡ plus v₃ h → r ≡ compressed h block
 unfolding compressed
 chain-eighty block h v₀ v₁ v₂ v₃ r e₀ e₁ e₂ e₃ er =

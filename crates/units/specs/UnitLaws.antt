@@ -38,7 +38,8 @@ module _ (u : ℕ) (l : List ℕ) (full : length l ≡ 512) where
   unfolding unitStateOf
   unused-blank e = by-parts (checked l) (zeros 492 0 l) (usedShape u l) refl refl e
     where
-      by-parts : (k z s : Bool) → checked l ≡ k → zeros 492 0 l ≡ z → pick k (pick z Unused (pick s Used Unsound)) Unsound ≡ Unused → l ≡ blankRecord
+      by-parts : (k z s : Bool) → checked l ≡ k → zeros 492 0 l ≡ z → pick k (pick z Unused (pick s Used Unsound)) Unsound ≡ Unused
+          → l ≡ blankRecord
       by-parts true true s ek ez q = blank-sound l full ek ez
       by-parts true false true ek ez q = let o : _≡_ {A = ℕ} 0 1 = cc in absurd (omega arith)
       by-parts true false false ek ez q = let o : _≡_ {A = ℕ} 0 1 = cc in absurd (omega arith)
