@@ -161,6 +161,11 @@ ruled-guarded own c rules guarded = rw (guarded, rules) (bare-off (isBare c))
     bare-off true = refl
     bare-off false = refl
 
+-- nor does a wrapped command of a row that is not open, on a unit of either method
+pub wrapped-guarded : (own c : List ℕ) → isBare c ≡ false → isOpenRow (needFor c) ≡ false → skipsGuard own c ≡ false
+unfolding skipsGuard
+wrapped-guarded own c wrapped guarded = rw (guarded, wrapped)
+
 -- a bare command that doesn't skip 6 to 15: CAPKEY rules
 bare-ruled : (o r : Bool) → either o (both true (not r)) ≡ false → r ≡ true
 bare-ruled true r e = cc

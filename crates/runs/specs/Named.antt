@@ -42,7 +42,7 @@ use Rattle.pages.specs.EffectLaws.{key-length, key-valid, key-working, key-diff
 use Rattle.calls.specs.Outcome.{Lent, gives, withSlots, rightlyLent}
 use Rattle.calls.specs.OutcomeLaws.{lengths-are}
 use Rattle.calls.specs.Slots.{holds}
-use Rattle.calls.specs.Whole.{Asked, isReplied, replyTo, madeBy, passed, judged, laid, Whole}
+use Rattle.calls.specs.Whole.{Asked, isReplied, replyTo, madeBy, passed, judged, laid, Whole, wholeReason}
 use Rattle.calls.specs.WholeLaws.{patch-none, not-replied, held-code, close-early, close-none}
 use Rattle.calls.specs.Open.{reasonAtOpen, judgedOut, openOut}
 use Rattle.calls.specs.OpenLaws.{open-judged, judged-refuses}
@@ -153,6 +153,19 @@ close-judges l s d clock right held n =
     let r = reasonAtOpen units k clock in
     let early = close-early (seen units (k .unit)) (k .command) (k .token) d clock r refl n in
     let whole-is = whole-refused units k d clock r early n (refusal r) refl in
+    sym (close-held l s d clock true (sym right) refl true (sym held) refl (refusal r) units whole-is)
+
+-- and for whatever reason the whole command has then, 18 and 19 too
+pub close-refuses : (l : Lent) (s : ℕ) (d : List ℕ) (clock : ℕ) → rightlyLent l ≡ true → holds (l .tabled .slots) s ≡ true
+    → (wholeReason (l .tabled .units) (heldBy (slotAt s (l .tabled .slots))) d clock ≡ 0 → ⊥)
+    → closeOut l s d clock
+    ≡ gives (refusal (wholeReason (l .tabled .units) (heldBy (slotAt s (l .tabled .slots))) d clock))
+    (withSlots (freed s (l .tabled .slots)) l)
+close-refuses l s d clock right held n =
+    let units = l .tabled .units in
+    let k = heldBy (slotAt s (l .tabled .slots)) in
+    let r = wholeReason units k d clock in
+    let whole-is = whole-refused units k d clock r refl n (refusal r) refl in
     sym (close-held l s d clock true (sym right) refl true (sym held) refl (refusal r) units whole-is)
 
 -- ---- where CAPKEY rules, no command but an open row is GOOD without a capability
