@@ -160,7 +160,7 @@ uint64_t nn_build(uint8_t *units, size_t units_len, uint32_t unit, uint32_t meth
  *          milliseconds, which may go back.
  * Gives:   H1  units_len is not 4,096, slots_len not 8,192 or reply_len not 512
  *          H2  token_len is not 16 to 64
- *          A3  with a reason from 1 to 17
+ *          A3  with a reason from 1 to 17, or 1Bh
  *          A1  a command that carries data out passed, and waits in that slot, the lowest that is free: hand its data to nn_close
  *          A4  it passed, and no slot is free
  *          A0  a page of SECURITY PROTOCOL IN passed: its first NN_COUNT bytes stand in the reply, as many as the page has or as bytes
@@ -180,7 +180,7 @@ uint64_t nn_open(uint8_t *units, size_t units_len, uint8_t *slots, size_t slots_
  *          part in the answer.
  * Gives:   H1  units_len is not 4,096, slots_len not 8,192 or reply_len not 512
  *          H3  the slot is above 15, free or unsound
- *          A3  with a reason from 1 to 19, but not 2, 3 or 17, which a parked command can't have
+ *          A3  with a reason from 1 to 19, or 1Bh, but not 2, 3 or 17, which a parked command can't have
  *          A2  the command passed: run it with its data
  *          A0  with count 0: a page of SECURITY PROTOCOL OUT passed and is done
  * Leaves:  with A0, A2 and A3 the slot is free; with A0 the unit's record is new, as the page says. Everything else is kept, by H1 and
