@@ -163,8 +163,8 @@ uint64_t nn_build(uint8_t *units, size_t units_len, uint32_t unit, uint32_t meth
  *          A3  with a reason from 1 to 17, or 1Bh
  *          A1  a command that carries data out passed, and waits in that slot, the lowest that is free: hand its data to nn_close
  *          A4  it passed, and no slot is free
- *          A0  a page of SECURITY PROTOCOL IN passed: its first NN_COUNT bytes stand in the reply, as many as the page has or as bytes
- *              6-9 of the command allow
+ *          A0  a page of SECURITY PROTOCOL IN other than 0012h passed: its first NN_COUNT bytes stand in the reply, as many as the page
+ *              has or as bytes 6-9 of the command allow
  *          A2  any other command passed: run it
  * Leaves:  A0 the reply's first NN_COUNT bytes new; A1 that slot new; everything else is kept, by the other answers every byte.
  */
