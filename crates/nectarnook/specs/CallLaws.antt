@@ -32,7 +32,7 @@ use Rattle.calls.specs.Whole.{Asked, listTests, closeReason, Local, isReplied, 
 use Rattle.calls.specs.Open.{parks, parkedIn, judgedOut, openOut}
 use Rattle.calls.specs.Close.{heldBy, closeOut}
 use Rattle.nectarnook.specs.Packed.{packedPaper}
-use Rattle.nectarnook.specs.Unpacked.{Fits, paperIn, paper-back}
+use Rattle.nectarnook.specs.Unpacked.{FitsItsBytes, paperIn, paper-back}
 
 -- ---- reasons are bytes
 
@@ -145,7 +145,7 @@ close-back l s d clock =
 
 -- ---- build, abort, reset
 
-back : (a : Answer) (t : List ℕ) → Fits a → Back (leaves a t)
+back : (a : Answer) (t : List ℕ) → FitsItsBytes a → Back (leaves a t)
 back a t h = record { same = paper-back a h }
 
 pub build-back : (units : List ℕ) (u m t : ℕ) (id auth gen : List ℕ)

@@ -108,8 +108,8 @@ abbrev pub AllBelow : ℕ → List ℕ → Type 0
 AllBelow b [] = Unit
 AllBelow b (v ∷ vs) = (v < b) × AllBelow b vs
 
-abbrev pub Fits : Answer → Type 0
-Fits a = AllBelow (limit (paperOf a .no)) (paperOf a .values)
+abbrev pub FitsItsBytes : Answer → Type 0
+FitsItsBytes a = AllBelow (limit (paperOf a .no)) (paperOf a .values)
 
 plain-word : (a s n : ℕ) → a < 256 → s < 256 → n < 1024 → paperIn (word a s 0 0 0 0 n) ≡ readAs a s 0 0 0 0 n
 plain-word a s n ha hs hn = read-word a s 0 0 0 0 n ha hs (omega arith) (omega arith) (omega arith) (omega arith) hn
@@ -120,10 +120,10 @@ h-word n h =
     plain-word (0x10 + n) 0 0 (omega arith) (omega arith) (omega arith)
     ∙ rw (ne-eqb (0x10 + n) 0 (λ e. omega arith), ne-eqb (0x10 + n) 1 (λ e. omega arith), ne-eqb (0x10 + n) 2 (λ e. omega arith), ne-eqb (0x10 + n) 3 (λ e. omega arith), ne-eqb (0x10 + n) 4 (λ e. omega arith), add-sub-cancel-left 0x10 n)
 
-pub paper-back : (a : Answer) → Fits a → paperIn (packed a) ≡ paperOf a
+pub paper-back : (a : Answer) → FitsItsBytes a → paperIn (packed a) ≡ paperOf a
 unfolding packedBy readAs
 paper-back =
-    answer-cases (λ (a : Answer). Fits a → paperIn (packed a) ≡ paperOf a)
+    answer-cases (λ (a : Answer). FitsItsBytes a → paperIn (packed a) ≡ paperOf a)
     (λ count h. plain-word 0 0 count (omega arith) (omega arith) (h .1 .0))
     (λ slot h. plain-word 1 0 (slot .0) (omega arith) (omega arith) (h .0))
     (λ h. plain-word 2 0 0 (omega arith) (omega arith) (omega arith))
@@ -132,5 +132,5 @@ paper-back =
     (λ a n small e h. ap (λ (p : Paper). paperIn (packedPaper p)) e ∙ h-word n small ∙ sym e)
 
 -- two answers with one number are the same answer
-pub packed-apart : (a b : Answer) → Fits a → Fits b → packed a ≡ packed b → a ≡ b
+pub packed-apart : (a b : Answer) → FitsItsBytes a → FitsItsBytes b → packed a ≡ packed b → a ≡ b
 packed-apart a b h k e = paper-apart a b (sym (paper-back a h) ∙ ap paperIn e ∙ paper-back b k)
