@@ -7,8 +7,8 @@ use Prim.Native.Nat.{ℕ, _+_, _-_, _*_, _≤_, _<_}
 use native.Mathlib.Omega.{arith}
 use lib.ListN.{length, take, drop, getD, length-append, length-take, length-drop, List·getD-append}
 use native.Mathlib.Nat.{add-assoc, add-sub-cancel-left}
-use lib.Dec.{ltb}
-use borrow.Author.Tests.{ltb-true, ltb-false}
+use lib.Dec.{eqb, ltb}
+use borrow.Author.Tests.{eqb-true, eqb-false, ltb-true, ltb-false}
 use lib.Seq.{paste, take-add, take-at, drop-at, take-length, drop-drop, length-take-le, getD-append-add, getD-take, getD-drop, ext-getD}
 use Rattle.wire.specs.Bytes.{part, patch}
 
@@ -137,6 +137,65 @@ module _ (xs : List ℕ) (a : ℕ) (ys : List ℕ) (fits : a + length ys ≤ len
       ∙ append-assoc p ys (zs ++ drop (length (ys ++ zs)) (drop a xs))
       ∙ ap (λ (l : List ℕ). p ++ l) (sym (append-assoc ys zs (drop (length (ys ++ zs)) (drop a xs))))
 
+-- a second patch over the first, as long as it
+pub patch-over : (xs : List ℕ) (a : ℕ) (ys zs : List ℕ) → length ys ≡ length zs → a + length ys ≤ length xs
+    → patch (patch xs a ys) a zs ≡ patch xs a zs
+unfolding patch
+patch-over xs a ys zs e fits =
+    let p : List ℕ = take a xs in
+    let r : List ℕ = drop (length ys) (drop a xs) in
+    let lp : length p ≡ a = length-take-le a xs (omega arith) in
+    let rest : drop (length zs) (ys ++ r) ≡ drop (length zs) (drop a xs) =
+    drop-at ys r (length zs) e ∙ ap (λ (n : ℕ). drop n (drop a xs)) e in
+    ap₂ (λ (x y : List ℕ). x ++ (zs ++ y)) (take-at p (ys ++ r) a lp) (ap (drop (length zs)) (drop-at p (ys ++ r) a lp) ∙ rest)
+
+-- two patches apart, in either order
+module _ (xs : List ℕ) (a : ℕ) (ys : List ℕ) (b : ℕ) (zs : List ℕ) (apart : a + length ys ≤ b) (fits : b + length zs ≤ length xs) where
+  first-fits : a + length ys ≤ length xs
+  first-fits = omega arith
+
+  second-fits : b + length zs ≤ length (patch xs a ys)
+  second-fits = rw (length-patch xs a ys first-fits) fits
+
+  swapped-fits : a + length ys ≤ length (patch xs b zs)
+  swapped-fits = rw (length-patch xs b zs fits) first-fits
+
+  -- the byte at i: below the first, in it, between them, in the second, above it
+  byte-same : (i : ℕ) (p q r s : Bool) → ltb i a ≡ p → ltb i (a + length ys) ≡ q → ltb i b ≡ r → ltb i (b + length zs) ≡ s
+      → getD (patch (patch xs a ys) b zs) i 0 ≡ getD (patch (patch xs b zs) a ys) i 0
+  byte-same i true q r s ep eq er es =
+      let h = ltb-true i a ep in
+      at-outside (patch xs a ys) b zs second-fits i (inl (omega arith)) ∙ at-outside xs a ys first-fits i (inl h)
+      ∙ sym (at-outside (patch xs b zs) a ys swapped-fits i (inl h) ∙ at-outside xs b zs fits i (inl (omega arith)))
+  byte-same i false true r s ep eq er es =
+      let h : a ≤ i = ltb-false i a ep in
+      let k : i < a + length ys = ltb-true i (a + length ys) eq in
+      let e : a + (i - a) ≡ i = omega arith in
+      at-outside (patch xs a ys) b zs second-fits i (inl (omega arith)) ∙ rw e at (at-inside xs a ys first-fits (i - a) (omega arith))
+      ∙ sym (rw e at (at-inside (patch xs b zs) a ys swapped-fits (i - a) (omega arith)))
+  byte-same i false false true s ep eq er es =
+      let h : a + length ys ≤ i = ltb-false i (a + length ys) eq in
+      let k : i < b = ltb-true i b er in
+      at-outside (patch xs a ys) b zs second-fits i (inl k) ∙ at-outside xs a ys first-fits i (inr h)
+      ∙ sym (at-outside (patch xs b zs) a ys swapped-fits i (inr h) ∙ at-outside xs b zs fits i (inl k))
+  byte-same i false false false true ep eq er es =
+      let h : b ≤ i = ltb-false i b er in
+      let k : i < b + length zs = ltb-true i (b + length zs) es in
+      let e : b + (i - b) ≡ i = omega arith in
+      rw e at (at-inside (patch xs a ys) b zs second-fits (i - b) (omega arith))
+      ∙ sym (at-outside (patch xs b zs) a ys swapped-fits i (inr (omega arith)) ∙ rw e at (at-inside xs b zs fits (i - b) (omega arith)))
+  byte-same i false false false false ep eq er es =
+      let h : b + length zs ≤ i = ltb-false i (b + length zs) es in
+      at-outside (patch xs a ys) b zs second-fits i (inr h) ∙ at-outside xs a ys first-fits i (inr (omega arith))
+      ∙ sym (at-outside (patch xs b zs) a ys swapped-fits i (inr (omega arith)) ∙ at-outside xs b zs fits i (inr h))
+
+  pub patch-swap : patch (patch xs a ys) b zs ≡ patch (patch xs b zs) a ys
+  patch-swap =
+      ext-getD 0 (patch (patch xs a ys) b zs) (patch (patch xs b zs) a ys)
+      (length-patch (patch xs a ys) b zs second-fits ∙ length-patch xs a ys first-fits
+      ∙ sym (length-patch (patch xs b zs) a ys swapped-fits ∙ length-patch xs b zs fits))
+      (λ i h. byte-same i (ltb i a) (ltb i (a + length ys)) (ltb i b) (ltb i (b + length zs)) refl refl refl refl)
+
 -- ---- tables of records of 512 bytes
 
 module _ (t : List ℕ) (i : ℕ) (r : List ℕ) (full : length r ≡ 512) (fits : i * 512 + 512 ≤ length t) where
@@ -161,3 +220,24 @@ module _ (t : List ℕ) (i : ℕ) (r : List ℕ) (full : length r ≡ 512) (fits
 
   pub record-length : length (patch t (i * 512) r) ≡ length t
   record-length = length-patch t (i * 512) r enough
+
+  -- two records at different places, in either order
+  pub record-swap : (j : ℕ) (q : List ℕ) → (i ≡ j → ⊥) → length q ≡ 512 → j * 512 + 512 ≤ length t
+      → patch (patch t (i * 512) r) (j * 512) q ≡ patch (patch t (j * 512) q) (i * 512) r
+  record-swap j q ne long room = by-place (ltb i j) refl
+    where
+      by-place : (b : Bool) → ltb i j ≡ b → patch (patch t (i * 512) r) (j * 512) q ≡ patch (patch t (j * 512) q) (i * 512) r
+      by-place true e =
+          let h : i < j = ltb-true i j e in
+          patch-swap t (i * 512) r (j * 512) q (omega arith) (omega arith)
+      by-place false e =
+          let h : j ≤ i = ltb-false i j e in
+          let k : j < i = lower h in
+          sym (patch-swap t (j * 512) q (i * 512) r (omega arith) (omega arith))
+        where
+          lower : j ≤ i → j < i
+          lower h = by-same (eqb i j) refl
+            where
+              by-same : (c : Bool) → eqb i j ≡ c → j < i
+              by-same true f = absurd (ne (eqb-true i j f))
+              by-same false f = let n = eqb-false i j f in omega arith

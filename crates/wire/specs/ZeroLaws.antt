@@ -1,5 +1,5 @@
 -- Laws of a run of zeros: as a loop finds it, and as a list has it.
-use mathlib.Core.Path.{_≡_, refl, _∙_, sym}
+use mathlib.Core.Path.{_≡_, refl, _∙_, sym, ap}
 use mathlib.Core.Logic.{_⊎_, inl, inr, ⊎-elim}
 use mathlib.Core.Bool.{Bool, true, false}
 use mathlib.Core.List.{List}
@@ -7,10 +7,10 @@ use Prim.Native.Nat.{ℕ, zero, suc, _+_, _-_, _≤_, _<_}
 use native.Mathlib.Omega.{arith}
 use native.Mathlib.Nat.{add-zero}
 use lib.Bits.{bitOr}
-use lib.Dec.{eqb}
+use lib.Dec.{eqb, ltb}
 use lib.ListN.{length, getD, List·getD-eq-default, replicate, getD-replicate, length-replicate, length-take, length-drop, drop}
 use lib.Seq.{ext-getD, getD-take, getD-drop}
-use borrow.Author.Tests.{eq-eqb, ne-eqb, eqb-true, eqb-false}
+use borrow.Author.Tests.{eq-eqb, ne-eqb, eqb-true, eqb-false, ltb-true, ltb-false}
 use Rattle.choice.specs.Choice.{both}
 use Rattle.choice.specs.ChoiceLaws.{both-true}
 use Rattle.wire.specs.Bytes.{part, number, zeros, patch}
@@ -94,6 +94,21 @@ zeros-part n a l h z =
   where
     lens : length (part a n l) ≡ length {A = ℕ} (replicate n 0)
     lens = simp (length-take, length-drop, length-replicate) (omega arith)
+
+pub zeros-of : (n a : ℕ) (l : List ℕ) → part a n l ≡ replicate n 0 → zeros n a l ≡ true
+zeros-of n a l e =
+    zeros-all n a l (λ i h. sym (getD-take n (drop a l) i 0 h ∙ getD-drop a l i 0) ∙ ap (λ (x : List ℕ). getD x i 0) e ∙ getD-replicate n i 0 0 h)
+
+-- two runs of zeros, one behind the other, make one
+pub zeros-join : (n m a : ℕ) (l : List ℕ) → zeros n a l ≡ true → zeros m (a + n) l ≡ true → zeros (n + m) a l ≡ true
+zeros-join n m a l z w = zeros-all (n + m) a l (λ i h. by-place i h (ltb i n) refl)
+  where
+    by-place : (i : ℕ) → i < n + m → (b : Bool) → ltb i n ≡ b → getD l (a + i) 0 ≡ 0
+    by-place i h true e = zeros-at n a l z i (ltb-true i n e)
+    by-place i h false e =
+        let k : n ≤ i = ltb-false i n e in
+        let q : a + n + (i - n) ≡ a + i = omega arith in
+        rw q at (zeros-at m (a + n) l w (i - n) (omega arith))
 
 -- two lists that agree on n bytes of a room, with zeros in the rest of it, agree on all of it
 pub room-same : (a room n : ℕ) (l k : List ℕ) → n ≤ room → a + room ≤ length l → a + room ≤ length k → part a n l ≡ part a n k
