@@ -1,6 +1,6 @@
 /*
- * Nectarnook in a C program: lays out fresh tables, builds a unit without security (NOSEC), parks a bare WRITE(10), closes it when its
- * data have come, and prints each answer. Build it with tools/embed.
+ * Nectarnook in a C program: lays out fresh tables, builds a unit without security (NOSEC) and another that shares its keys, parks a bare
+ * WRITE(10), closes it when its data have come, and prints each answer. Build it with tools/embed.
  */
 #include <stdio.h>
 
@@ -42,6 +42,7 @@ static void print_answer(const char *call, uint64_t result)
 int main(void)
 {
     static const uint8_t identifier[NN_IDENTIFIER_LEN] = "image store no 1";
+    static const uint8_t second_identifier[NN_IDENTIFIER_LEN] = "image store no 2";
     static const uint8_t auth_key[NN_KEY_LEN] = { 0x01 };
     static const uint8_t gen_key[NN_KEY_LEN] = { 0x02 };
     static const uint8_t token[NN_TOKEN_LEAST] = { 0x10 };
@@ -50,8 +51,14 @@ int main(void)
     static const uint8_t block[512] = { 0xff };
     uint64_t result;
 
-    result = nn_build(units, sizeof units, 0, 0, 7, identifier, auth_key, gen_key);
+    result = nn_build(units, sizeof units, 0, 0, 7, identifier, auth_key, gen_key, 0);
     print_answer("build unit 0, NOSEC, tag 7:", result);
+
+    /* Unit 1 shares unit 0's keys: one more than the keeper's number. The keys given here are ignored. */
+    result = nn_build(units, sizeof units, 1, 0, 7, second_identifier, auth_key, gen_key, 0 + 1);
+    print_answer("build unit 1, a sharer:", result);
+    if (NN_ANSWER(result) != NN_A0)
+        return 1;
 
     result = nn_open(units, sizeof units, slots, sizeof slots, reply, sizeof reply, 0, write_10, sizeof write_10, token,
                      sizeof token, 1000);

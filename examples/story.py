@@ -1,5 +1,6 @@
 #!/usr/bin/env python3
-"""Prints examples/story.txt: a listing of calls that tells how a guarded unit is used, from its first refusal to a change of keys.
+"""Prints examples/story.txt: a listing of calls that tells how a guarded unit is used, from its first refusal to a change of keys, and how
+two lines of one owner share a set of keys.
 
 The capabilities are made here with Python's own hmac and hashlib, as the security manager of a store would make them (document 01,
 "Descriptor" and "Pages"); the program `replay` answers the listing. Run `make demo` to see each line with its answer.
@@ -9,11 +10,14 @@ import hmac
 
 IDENTIFIER = b"image store no 1"
 SECOND_IDENTIFIER = b"image store no 2"
+KEEPER, KEEPER_IDENTIFIER = 2, b"image store no 3"
+SHARER, SHARER_IDENTIFIER = 3, b"image store no 4"
 TOKEN = bytes(range(0x10, 0x20))
 AUTH_KEY = b"authentication key 1"
 GEN_KEY = b"generation key no. 1"
 SEED = b"seed of version 3..."
 SECOND_SEED = b"another seed of it.."
+SHARED_SEED = b"one seed for both..."
 AGREED = bytes(x * 7 % 256 for x in range(256))
 NOSEC, CAPKEY = 0, 1
 WRITE_10 = bytes.fromhex("2a000000080000010000")
@@ -31,27 +35,38 @@ def mac(key, message):
     return hmac.new(key, message, hashlib.sha1).digest()
 
 
-def descriptor(version, permissions, tag, expiration=0):
+def descriptor(version, permissions, tag, expiration, identifier):
     """the 58 bytes that a capability is made of"""
     head = big(0x10 | version, 1) + big(CAPKEY, 1) + big(1, 4) + big(expiration, 6)
-    return head + bytes(20) + big(permissions, 1) + bytes(3) + big(tag, 4) + b"\x01\x10" + IDENTIFIER
+    return head + bytes(20) + big(permissions, 1) + bytes(3) + big(tag, 4) + b"\x01\x10" + identifier
 
 
-def wrapped(cdb, key, version, permissions, tag, expiration=0):
+def wrapped(cdb, key, version, permissions, tag, expiration=0, identifier=IDENTIFIER):
     """the CDB with a descriptor behind it and the integrity check value for the token, under a key"""
-    made = descriptor(version, permissions, tag, expiration)
+    made = descriptor(version, permissions, tag, expiration, identifier)
     return cdb + made + mac(mac(key, made), TOKEN)
 
 
-def out_command(page, data, key, tag):
+def out_command(page, data, key, tag, identifier=IDENTIFIER):
     """SECURITY PROTOCOL OUT of a page, wrapped under a master key"""
     cdb = big(SECURITY_OUT, 1) + b"\x07" + big(page, 2) + bytes(2) + big(len(data), 4) + bytes(2)
-    return wrapped(cdb, key, 0, SEC_MGMT, tag)
+    return wrapped(cdb, key, 0, SEC_MGMT, tag, identifier=identifier)
 
 
-def next_pair(gen_key, agreed):
-    """the pair of master keys that a seed exchange makes: authentication, generation"""
-    seed = agreed + IDENTIFIER
+def set_key_list(version, seed):
+    return big(SET_KEY, 2) + big(0x18, 2) + big(version, 1) + bytes(3) + seed
+
+
+def exchange_list(agreed):
+    return big(SEED_EXCHANGE, 2) + big(0x104, 2) + b"\x00\x0e" + bytes(2) + agreed
+
+
+CHANGE_LIST = big(CHANGE, 2) + big(0, 2)
+
+
+def next_pair(gen_key, agreed, identifier=IDENTIFIER):
+    """the pair of master keys that a seed exchange makes at the unit that keeps the keys: authentication, generation"""
+    seed = agreed + identifier
     flipped = seed[:-1] + bytes([seed[-1] ^ 1])
     return mac(gen_key, flipped), mac(gen_key, seed)
 
@@ -62,8 +77,8 @@ def say(text):
         print("#", line)
 
 
-def build(unit, method, tag, identifier):
-    print("build", unit, method, tag, identifier.hex(), AUTH_KEY.hex(), GEN_KEY.hex())
+def build(unit, method, tag, identifier, *keeper):
+    print("build", unit, method, tag, identifier.hex(), AUTH_KEY.hex(), GEN_KEY.hex(), *keeper)
 
 
 def command(unit, clock, sent):
@@ -84,7 +99,7 @@ def guarded_unit():
 
 
 def first_key():
-    data = big(SET_KEY, 2) + big(0x18, 2) + big(3, 1) + bytes(3) + SEED
+    data = set_key_list(3, SEED)
     say("Working key 3 is set. Set Key is signed under the authentication master key. A1: it waits in slot 0 for its data.")
     command(0, 2000, out_command(SET_KEY, data, AUTH_KEY, 7))
     say("Its data are the version and a seed, of which the unit makes the key.")
@@ -124,7 +139,7 @@ def full_slots():
 
 
 def new_keys(old):
-    data = big(SEED_EXCHANGE, 2) + big(0x104, 2) + b"\x00\x0e" + bytes(2) + AGREED
+    data = exchange_list(AGREED)
     say("The master keys of unit 0 are changed. First Seed Exchange, signed under the old authentication master key, with the value\n"
         "that both sides agreed on.")
     command(0, 13000, out_command(SEED_EXCHANGE, data, AUTH_KEY, 8))
@@ -133,17 +148,16 @@ def new_keys(old):
     say("The old working keys still hold.")
     command(0, 13002, wrapped(WRITE_10, old, 3, DATA_WRITE, 8))
     finish(0, 13003, bytes(8))
-    change = big(CHANGE, 2) + big(0, 2)
     say("Then Change, signed under the next authentication master key: whoever has it took part in the exchange.")
-    command(0, 13004, out_command(CHANGE, change, auth_key, 8))
-    finish(0, 13005, change)
+    command(0, 13004, out_command(CHANGE, CHANGE_LIST, auth_key, 8))
+    finish(0, 13005, CHANGE_LIST)
     return auth_key, gen_key
 
 
 def after_change(old, auth_key, gen_key):
     say("With that the old credentials have ended: there is no key 3 any more, reason 14.")
     command(0, 14000, wrapped(WRITE_10, old, 3, DATA_WRITE, 8))
-    data = big(SET_KEY, 2) + big(0x18, 2) + big(3, 1) + bytes(3) + SECOND_SEED
+    data = set_key_list(3, SECOND_SEED)
     say("A new key 3 is set under the new master keys.")
     command(0, 14001, out_command(SET_KEY, data, auth_key, 8))
     finish(0, 14002, data)
@@ -151,6 +165,36 @@ def after_change(old, auth_key, gen_key):
     command(0, 14003, wrapped(WRITE_10, old, 3, DATA_WRITE, 8))
     command(0, 14004, wrapped(WRITE_10, mac(gen_key, SECOND_SEED), 3, DATA_WRITE, 8))
     finish(0, 14005, bytes(8))
+
+
+def shared_set():
+    say("The owner of two lines wants one set of keys for both. Unit 2 keeps the keys; unit 3 is built as a sharer of unit 2's: the keys\n"
+        "that the line asks for are ignored. Method, tag and identifier are each unit's own.")
+    build(KEEPER, CAPKEY, 5, KEEPER_IDENTIFIER)
+    build(SHARER, CAPKEY, 6, SHARER_IDENTIFIER, "keeper", KEEPER)
+    data = set_key_list(4, SHARED_SEED)
+    key = mac(GEN_KEY, SHARED_SEED)
+    say("Working key 4 is set once, at unit 2.")
+    command(KEEPER, 15000, out_command(SET_KEY, data, AUTH_KEY, 5, KEEPER_IDENTIFIER))
+    finish(0, 15001, data)
+    say("A write at unit 3 passes under it, with unit 3's own tag and identifier.")
+    command(SHARER, 15002, wrapped(WRITE_10, key, 4, DATA_WRITE, 6, identifier=SHARER_IDENTIFIER))
+    finish(0, 15003, bytes(8))
+    return key
+
+
+def shared_change(key):
+    data = exchange_list(AGREED)
+    auth_key, _ = next_pair(GEN_KEY, AGREED, KEEPER_IDENTIFIER)
+    say("Another write is parked at unit 3, in slot 0.")
+    command(SHARER, 16000, wrapped(WRITE_10, key, 4, DATA_WRITE, 6, identifier=SHARER_IDENTIFIER))
+    say("Before its data come, the master keys are changed at unit 2: Seed Exchange, then Change.")
+    command(KEEPER, 16001, out_command(SEED_EXCHANGE, data, AUTH_KEY, 5, KEEPER_IDENTIFIER))
+    finish(1, 16002, data)
+    command(KEEPER, 16003, out_command(CHANGE, CHANGE_LIST, auth_key, 5, KEEPER_IDENTIFIER))
+    finish(1, 16004, CHANGE_LIST)
+    say("That ended key 4 for both lines: the write at unit 3 is refused at its close, reason 14.")
+    finish(0, 16005, bytes(8))
     say("The digests of the unit table, the slot table and the reply as all this left them.")
     print("state")
 
@@ -164,6 +208,7 @@ def main():
     changed_tag(key)
     full_slots()
     after_change(key, *new_keys(key))
+    shared_change(shared_set())
 
 
 main()

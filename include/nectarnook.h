@@ -95,7 +95,7 @@ extern "C" {
  *   H2  the token is not 16 to 64 bytes long
  *   H3  the slot is above 15, free or unsound
  *   H4  the slot holds a command that takes no data. No call gives it: such a slot is unsound, and so H3
- *   H5  the unit is above 7 or the method above 1
+ *   H5  build: the unit is above 7, the method above 1, or the keeper one that may not be (nn_build)
  *
  * A0 to A4 are for the initiator; H1 to H5 tell the store that it called wrongly, and they change no byte. */
 #define NN_A0 0x00
@@ -112,7 +112,8 @@ extern "C" {
 /* What NN_REASON gives with A3, and the sense beside it (key, code/qualifier). The first that applies is given.
  *
  *   1    5h  25h/00h  the unit is above 7, or its record sound and unused
- *   1Bh  4h  44h/00h  the unit's record is unsound (written 1b)
+ *   1Bh  4h  44h/00h  the unit's record is unsound, or it shares keys and its keeper's is not sound, used and with keys of its own (written
+ *                     1b)
  *   2    5h  20h/00h  the command is empty or its code unknown
  *   3    5h  24h/00h  its length is neither the bare CDB's nor 78 bytes more
  *   4    5h  24h/00h  A2h, B5h: protocol not 07h, page unlisted, or bit 7 of byte 4 set
@@ -124,10 +125,10 @@ extern "C" {
  *   11   5h  24h/00h  capability: a needed permission bit is missing
  *   12   5h  24h/00h  capability: policy tag not zero and not the unit's
  *   13   5h  24h/00h  capability: type not 1h, length not 16, or identifier not the unit's
- *   14   5h  24h/00h  CAPKEY rules and there is no such key
+ *   14   5h  24h/00h  CAPKEY rules and there is no such key in the unit's key set
  *   15   5h  24h/00h  the integrity check value differs
  *   16   5h  1Ah/00h  B5h: bytes 6-9 are not the page's total
- *   17   5h  24h/00h  A2h, page 0012h: no seed exchange is pending
+ *   17   5h  24h/00h  A2h, page 0012h: no seed exchange is pending in the unit's key set
  *   18   5h  1Ah/00h  B5h: the data are not as long as bytes 6-9 say
  *   19   5h  26h/00h  B5h: page code, page length, a field or a named zero of the data is wrong
  *
@@ -141,16 +142,27 @@ extern "C" {
  * nn_build - build a unit's record
  *
  * Gets:    the unit table; the unit, 0 to 7; the method, 0 NOSEC or 1 CAPKEY; the policy access tag, any; the unit's identifier and its
- *          authentication and generation master keys.
+ *          authentication and generation master keys; the keeper: 0 for keys of its own, or one more than the number of the unit whose
+ *          keys it shares.
  * Gives:   H1  units_len is not 4,096
- *          H5  unit above 7 or method above 1
+ *          H5  unit above 7 or method above 1; keeper above 8, or one more than the unit's own number, or that of a unit whose record is
+ *              not sound, used and with keys of its own
  *          A0  with count 0
  * Leaves:  with A0 the unit's record is new, whatever stood there: no working key is valid and no seed exchange is pending; the other
  *          records are kept. With H1 and H5 every byte is kept.
+ *
+ * Units that share keys. A sharer has no keys: those given here are ignored, and its record holds zeros. Keys, the mask of valid versions
+ * and a pending seed exchange are its keeper's: SECURITY PROTOCOL OUT pages Set Key, Seed Exchange and Change at a sharer act on the
+ * keeper's record, S is made with the keeper's identifier, and page 0011h shows the keeper's mask. So a key that is set at one unit of the
+ * set is there for all, and a Change at one ends the working keys of all. Method, policy access tag and identifier are each unit's own,
+ * and Set Attributes changes its unit alone. Who keeps whose keys is fixed until a record is built anew.
+ *
+ * Take care when a keeper is built anew: with keys of its own, its sharers share the new ones from then on; as a sharer itself, it leaves
+ * every unit that shared its keys unsound (1Bh), until it is built with keys of its own again or they are.
  */
 uint64_t nn_build(uint8_t *units, size_t units_len, uint32_t unit, uint32_t method, uint32_t tag,
                   const uint8_t identifier[NN_IDENTIFIER_LEN], const uint8_t auth_key[NN_KEY_LEN],
-                  const uint8_t gen_key[NN_KEY_LEN]);
+                  const uint8_t gen_key[NN_KEY_LEN], uint32_t keeper);
 
 /*
  * nn_open - a command has come
@@ -175,16 +187,16 @@ uint64_t nn_open(uint8_t *units, size_t units_len, uint8_t *slots, size_t slots_
 /*
  * nn_close - the data of a parked command have come
  *
- * Gets:    the three buffers; the slot; the data; the clock. The command is judged again from the start, by the unit's record as it
- *          is now and by this clock; for SECURITY PROTOCOL OUT (B5h) the data are the parameter list, for other commands they have no
- *          part in the answer.
+ * Gets:    the three buffers; the slot; the data; the clock. The command is judged again from the start, by the records of the unit and of
+ *          its keeper as they are now and by this clock; for SECURITY PROTOCOL OUT (B5h) the data are the parameter list, for other
+ *          commands they have no part in the answer.
  * Gives:   H1  units_len is not 4,096, slots_len not 8,192 or reply_len not 512
  *          H3  the slot is above 15, free or unsound
  *          A3  with a reason from 1 to 19, or 1Bh, but not 2, 3 or 17, which a parked command can't have
  *          A2  the command passed: run it with its data
  *          A0  with count 0: a page of SECURITY PROTOCOL OUT passed and is done
- * Leaves:  with A0, A2 and A3 the slot is free; with A0 the unit's record is new, as the page says. Everything else is kept, by H1 and
- *          H3 every byte.
+ * Leaves:  with A0, A2 and A3 the slot is free; with A0 the unit's record is new, as the page says, or that of its keeper where the page
+ *          is about keys. Everything else is kept, by H1 and H3 every byte.
  */
 uint64_t nn_close(uint8_t *units, size_t units_len, uint8_t *slots, size_t slots_len, uint8_t *reply, size_t reply_len,
                   uint32_t slot, const uint8_t *data, size_t data_len, uint64_t clock);

@@ -2,12 +2,15 @@
 //! it knows the keys and slots there are, and shows every call to a watcher.
 
 pub mod between;
+pub mod built_over;
 pub mod case;
+pub mod changes;
 pub mod damage;
 pub mod draft;
 pub mod edges;
 pub mod examples;
 pub mod faults;
+pub mod fields;
 pub mod lists;
 pub mod master;
 pub mod mixed;
@@ -16,6 +19,8 @@ pub mod planted;
 pub mod pressure;
 pub mod sections;
 pub mod set_up;
+pub mod sharer_damage;
+pub mod sharing;
 pub mod tally;
 
 use crate::answer::Answer;
@@ -24,14 +29,17 @@ use crate::engine::{Build, Engine};
 use crate::hashes::Own;
 use crate::judge::page_code;
 use crate::lines::{Buffer, Line};
-use crate::records::{self, Body, Record, Slot, Unit, BODY, RECORD, SLOTS, UNITS};
+use crate::records::{self, Body, Member, Record, Slot, UnitRecord};
+use crate::records::{BODY, RECORD, SLOTS, UNITS};
 use crate::replay::Tables;
 use crate::rng::Rng;
 use crate::sha1::sha1;
-use tally::Tally;
+use tally::{Found, Tally};
 
-/// A line that asks for the state comes after so many calls.
+/// A line that asks for the state comes after so many calls; among sharers more
+/// often, as a call at one unit may change another's record.
 const STATE_EVERY: usize = 50;
+const STATE_EVERY_SHARING: usize = 10;
 
 /// What sees every line with its answer and the tables that it left.
 pub trait Watch {
@@ -48,6 +56,8 @@ pub struct World<W> {
     pub watch: W,
     engine: Engine,
     clock: u64,
+    /// Whether the sections are to build sharers too.
+    sharing: bool,
 }
 
 /// What is done with a record's check when its other bytes are changed.
@@ -66,6 +76,7 @@ impl<W: Watch> World<W> {
             watch,
             engine: Engine::new(Own),
             clock: 1000,
+            sharing: false,
         }
     }
 
@@ -80,23 +91,40 @@ impl<W: Watch> World<W> {
     }
 
     pub fn call(&mut self, line: Line) -> Answer {
-        let page = self.page_to_close(&line);
+        let found = self.found(&line);
         let answer = self.carry_out(&line).expect("a call has an answer");
-        self.tally.count(&line, answer, page);
-        if self.tally.calls().is_multiple_of(STATE_EVERY) {
+        self.tally.count(&line, answer, &found);
+        let every = if self.sharing {
+            STATE_EVERY_SHARING
+        } else {
+            STATE_EVERY
+        };
+        if self.tally.calls().is_multiple_of(every) {
             self.carry_out(&Line::State);
         }
         answer
     }
 
-    /// The page of OUT in the slot that the line is to close.
-    fn page_to_close(&self, line: &Line) -> Option<u16> {
-        let Line::Close { slot, .. } = line else {
-            return None;
-        };
-        match self.slot(*slot) {
-            Record::Used(held) if held.command[0] == codes::OUT => Some(page_code(&held.command)),
-            _ => None,
+    /// What the call is going to find.
+    fn found(&self, line: &Line) -> Found {
+        match line {
+            Line::Build(asked) => Found {
+                build_fault: self.only_build_fault(asked),
+                ..Found::default()
+            },
+            Line::Open { unit, .. } => Found {
+                sharer: self.sharer(*unit),
+                ..Found::default()
+            },
+            Line::Close { slot, .. } => match self.slot(*slot) {
+                Record::Used(held) => Found {
+                    page: (held.command[0] == codes::OUT).then(|| page_code(&held.command)),
+                    sharer: self.sharer(held.unit.into()),
+                    ..Found::default()
+                },
+                _ => Found::default(),
+            },
+            _ => Found::default(),
         }
     }
 
@@ -143,9 +171,17 @@ impl<W: Watch> World<W> {
     }
 
     /// What stands at the unit's place; nothing does at places above 7.
-    pub fn unit(&self, unit: u32) -> Record<Unit> {
+    pub fn unit(&self, unit: u32) -> Record<Member> {
         match unit as usize {
             place @ 0..UNITS => records::read_unit(&Own, &self.tables.units, place),
+            _ => Record::Empty,
+        }
+    }
+
+    /// The same as the record alone tells it.
+    pub fn unit_record(&self, unit: u32) -> Record<UnitRecord> {
+        match unit as usize {
+            place @ 0..UNITS => records::read_unit_record(&Own, &self.tables.units, place),
             _ => Record::Empty,
         }
     }
@@ -158,7 +194,7 @@ impl<W: Watch> World<W> {
     }
 
     /// The units of this standing.
-    pub fn units_that(&self, fits: impl Fn(&Record<Unit>) -> bool) -> Vec<u32> {
+    pub fn units_that(&self, fits: impl Fn(&Record<Member>) -> bool) -> Vec<u32> {
         let all = 0..UNITS as u32;
         all.filter(|unit| fits(&self.unit(*unit))).collect()
     }

@@ -1,12 +1,12 @@
-//! The five calls of document 01, "What a call gets and gives", over lent
-//! buffers of any lengths.
+//! The five calls of document 01, "What a call gets and gives", with document
+//! 02's K4, over lent buffers of any lengths.
 
 use crate::answer::Answer;
 use crate::codes;
 use crate::hashes::{Hashes, Own};
 use crate::judge::{self, Passed, Request};
-use crate::records::{self, Identifier, Method, Pair, Record, Slot, Unit};
-use crate::records::{SLOTS, SLOT_TABLE, UNITS, UNIT_TABLE};
+use crate::records::{self, Identifier, KeySet, Keys, Method, Pair, Record, Slot, Unit};
+use crate::records::{UnitRecord, SLOTS, SLOT_TABLE, UNITS, UNIT_TABLE};
 use crate::{pages_in, pages_out};
 
 /// Bytes of the reply.
@@ -24,7 +24,11 @@ pub struct Build {
     pub method: u32,
     pub tag: u32,
     pub identifier: Identifier,
+    /// Ignored where another unit keeps the keys.
     pub master: Pair,
+    /// What bytes 432-433 are to hold: 0 for own keys, or one more than the
+    /// number of the unit that keeps them.
+    pub keeper: u32,
 }
 
 /// The three buffers that open and close are lent.
@@ -51,20 +55,39 @@ impl<H: Hashes> Engine<H> {
         if units.len() != UNIT_TABLE {
             return Answer::H1;
         }
-        let place = asked.unit as usize;
-        let Some(method) = Method::from_number(asked.method).filter(|_| place < UNITS) else {
+        let Some(record) = self.record_asked(units, asked) else {
             return Answer::H5;
         };
+        records::write_unit(&self.hashes, units, asked.unit as usize, &record);
+        Answer::A0 { count: 0 }
+    }
+
+    /// Nothing where unit, method or keeper is wrong (H5).
+    fn record_asked(&self, units: &[u8], asked: &Build) -> Option<UnitRecord> {
+        if asked.unit as usize >= UNITS {
+            return None;
+        }
         let unit = Unit {
-            method,
+            method: Method::from_number(asked.method)?,
             tag: asked.tag,
             identifier: asked.identifier,
-            master: asked.master,
-            next: None,
-            working: [None; 16],
         };
-        records::write_unit(&self.hashes, units, place, &unit);
-        Answer::A0 { count: 0 }
+        let keys = self.keys_asked(units, asked)?;
+        Some(UnitRecord { unit, keys })
+    }
+
+    /// Nothing where the keeper's number is above 7 or the unit's own, or its
+    /// record not sound, used and with keys of its own.
+    fn keys_asked(&self, units: &[u8], asked: &Build) -> Option<Keys> {
+        let Some(keeper) = asked.keeper.checked_sub(1) else {
+            return Some(Keys::Own(Box::new(KeySet::new(asked.master))));
+        };
+        let place = keeper as usize;
+        if place >= UNITS || keeper == asked.unit {
+            return None;
+        }
+        records::read_keeper(&self.hashes, units, place)?;
+        Some(Keys::KeptBy(place))
     }
 
     pub fn open(&self, lent: &mut Lent, request: &Request) -> Answer {
@@ -77,7 +100,7 @@ impl<H: Hashes> Engine<H> {
         match judge::judge(&self.hashes, lent.units, request) {
             Err(reason) => Answer::refused(reason),
             Ok(passed) if codes::is_data_out(passed.cdb[0]) => {
-                self.park(lent.slots, request, passed.place)
+                self.park(lent.slots, request, passed.member.place)
             }
             Ok(passed) => answer_in(lent.reply, &passed),
         }
@@ -134,9 +157,8 @@ impl<H: Hashes> Engine<H> {
         let Some(page) = pages_out::parse(judge::page_code(passed.cdb), data) else {
             return Answer::refused(19);
         };
-        let mut unit = passed.unit;
-        page.carry_out(&self.hashes, &mut unit);
-        records::write_unit(&self.hashes, units, passed.place, &unit);
+        let (place, record) = page.carry_out(&self.hashes, passed.member);
+        records::write_unit(&self.hashes, units, place, &record);
         Answer::A0 { count: 0 }
     }
 
@@ -179,7 +201,7 @@ fn answer_in(reply: &mut [u8], passed: &Passed) -> Answer {
     if cdb[0] != codes::IN || judge::page_code(cdb) == codes::IN_SEED {
         return Answer::A2;
     }
-    let page = pages_in::page(judge::page_code(cdb), &passed.unit);
+    let page = pages_in::page(judge::page_code(cdb), &passed.member);
     let count = page.len().min(judge::cdb_bytes(cdb) as usize);
     reply[..count].copy_from_slice(&page[..count]);
     Answer::A0 { count }

@@ -2,7 +2,7 @@
 //! the same at every run.
 
 use crate::answer::Answer;
-use crate::calls::tally::Tally;
+use crate::calls::tally::{Found, Tally};
 use crate::calls::{Watch, World};
 use crate::engine::Engine;
 use crate::hashes::Own;
@@ -63,8 +63,9 @@ pub fn make() -> Listing {
 }
 
 const HEADING: &str = "\
-# Calls to the engine of document 01, one to a line:
+# Calls to the engine of document 01, with K4 of document 02, one to a line:
 # build UNIT METHOD TAG IDENTIFIER AUTHKEY GENKEY
+# build UNIT METHOD TAG IDENTIFIER AUTHKEY GENKEY keeper UNIT
 # open UNIT CLOCK COMMAND TOKEN
 # close SLOT CLOCK DATA
 # abort SLOT
@@ -81,7 +82,7 @@ fn add_unreadable(world: &mut World<Text>) {
     for text in unreadable() {
         if let Ok(Some(line)) = lines::parse(text.as_bytes()) {
             if let Some(answer) = world.tables.run(&Engine::new(Own), &line) {
-                world.tally.count(&line, answer, None);
+                world.tally.count(&line, answer, &Found::default());
             }
         }
         world.watch.stdin += &(text + "\n");
@@ -101,6 +102,9 @@ fn unreadable() -> Vec<String> {
     lines.push(format!(
         "build 7 1 4294967295 {id}  {key} {key}   # all right"
     ));
+    for keeper in KEEPERS {
+        lines.push(format!("build 6 0 7 {id} {key} {key} {keeper}"));
+    }
     lines.push(format!("abort {}", "9".repeat(60)));
     for length in [LONGEST, LONGEST + 1] {
         let call = "abort 99 #";
@@ -109,6 +113,22 @@ fn unreadable() -> Vec<String> {
     lines.push("state".to_string());
     lines
 }
+
+/// What may follow a build's keys; the last three can be read.
+const KEEPERS: [&str; 12] = [
+    "keeper",
+    "keeper # 7",
+    "keeper x",
+    "keeper -1",
+    "keeper 7 7",
+    "keepers 7",
+    "Keeper 7",
+    "keeper 4294967295",
+    "keeper 4294967296",
+    "keeper 4294967294",
+    "keeper  007 # all right",
+    "keeper 6",
+];
 
 const UNREADABLE: [&str; 36] = [
     "state",
@@ -151,16 +171,23 @@ const UNREADABLE: [&str; 36] = [
 
 #[cfg(test)]
 mod tests {
-    use super::make;
+    use super::{make, Listing};
     use crate::calls::sections::{AT_CLOSE, AT_OPEN};
+    use crate::calls::sharing::{KeeperFault, BUILD_FAULTS, KEEPER_FAULTS};
+    use crate::calls::tally::ELSEWHERE;
     use crate::lines::Fault;
+    use std::sync::OnceLock;
+
+    fn listing() -> &'static Listing {
+        static MADE: OnceLock<Listing> = OnceLock::new();
+        MADE.get_or_init(make)
+    }
 
     #[test]
     fn the_listing_holds_enough_of_everything() {
-        let listing = make();
-        let tally = &listing.tally;
+        let tally = &listing().tally;
         assert!(tally.calls() >= 20_000, "{} calls", tally.calls());
-        let size = listing.stdin.len();
+        let size = listing().stdin.len();
         assert!(size < 8_000_000, "{size} bytes");
         for reason in AT_OPEN {
             assert!(tally.reason(reason, "open") >= 100, "open {reason}");
@@ -178,8 +205,46 @@ mod tests {
     }
 
     #[test]
+    fn the_listing_holds_enough_of_sharers() {
+        let tally = &listing().tally;
+        let calls = tally.calls_at_sharers();
+        assert!(calls >= 2_000, "{calls} calls");
+        // No sharer is unused, so reason 1 is for none.
+        for reason in AT_OPEN.into_iter().filter(|reason| *reason != 1) {
+            let count = tally.reason_at_sharers(reason, "open");
+            assert!(count >= 10, "open {reason}");
+        }
+        for reason in AT_CLOSE.into_iter().filter(|reason| *reason != 1) {
+            let count = tally.reason_at_sharers(reason, "close");
+            assert!(count >= 10, "close {reason}");
+        }
+        for page in [0x0011, 0x0012, 0x0014, 0x0015] {
+            assert!(tally.page_at_sharers(page) >= 50, "page {page:04x}h");
+        }
+        for elsewhere in ELSEWHERE {
+            assert!(tally.elsewhere(elsewhere) >= 100, "{elsewhere:?}");
+        }
+    }
+
+    #[test]
+    fn the_listing_holds_enough_of_lost_and_refused_keepers() {
+        let tally = &listing().tally;
+        for fault in KEEPER_FAULTS {
+            assert!(tally.lost(fault) >= 20, "{fault:?}");
+        }
+        let others = KEEPER_FAULTS
+            .into_iter()
+            .filter(|fault| *fault != KeeperFault::Itself);
+        assert!(others.map(|fault| tally.lost(fault)).sum::<usize>() >= 100);
+        assert!(tally.damaged_sharers() >= 100);
+        for fault in BUILD_FAULTS {
+            assert!(tally.build_fault(fault) >= 100, "{fault:?}");
+        }
+    }
+
+    #[test]
     fn every_fault_of_a_line_is_met_with() {
-        let stdout = make().stdout;
+        let stdout = &listing().stdout;
         for fault in [
             Fault::UnknownWord,
             Fault::MissingWord,
@@ -198,7 +263,7 @@ mod tests {
 
     #[test]
     fn the_run_only_examples_come_first() {
-        let stdout = make().stdout;
+        let stdout = &listing().stdout;
         let mut expected = String::from("A0 00 0 -\n");
         for slot in 0..16 {
             expected += &format!("A1 {slot}\n");

@@ -1,11 +1,12 @@
 //! Reasons 1 to 17: document 01, "Order of judgement", over the descriptor of
-//! "Descriptor". Open and close judge a command by the same function.
+//! "Descriptor". Open and close judge a command by the same function. Keys and
+//! step are looked for at the unit's keeper (document 02, K4).
 
 use crate::answer::{Reason, UNSOUND};
 use crate::codes::{self, Entry, Need, DESCRIPTOR, TABLE};
 use crate::hashes::Hashes;
 use crate::pages_out;
-use crate::records::{self, Key, Method, Record, Unit, UNITS};
+use crate::records::{self, Key, KeySet, Member, Method, Record, UNITS};
 
 /// A command to be judged: an open call's own, or a slot's with the clock of
 /// the close.
@@ -20,8 +21,7 @@ pub struct Request<'a> {
 /// A command that no reason up to 17 applies to.
 #[derive(Clone, Debug)]
 pub struct Passed<'a> {
-    pub place: usize,
-    pub unit: Unit,
+    pub member: Member,
     pub cdb: &'a [u8],
 }
 
@@ -41,7 +41,7 @@ pub fn judge<'a>(
     units: &[u8],
     request: &Request<'a>,
 ) -> Result<Passed<'a>, Reason> {
-    let (place, unit) = find_unit(hashes, units, request.unit)?;
+    let member = find_unit(hashes, units, request.unit)?;
     let code = *request.command.first().ok_or(2)?;
     if TABLE[usize::from(code)] == Entry::Unknown {
         return Err(2);
@@ -49,17 +49,17 @@ pub fn judge<'a>(
     let (cdb, wrapping) = codes::parts(request.command).ok_or(3)?;
     let need = find_need(cdb).ok_or(4)?;
     let capability = Capability {
-        unit: &unit,
+        member: &member,
         need,
         is_change: code == codes::OUT && page_code(cdb) == codes::CHANGE,
     };
     capability.judge(hashes, wrapping, request)?;
-    judge_protocol(&unit, cdb)?;
-    Ok(Passed { place, unit, cdb })
+    judge_protocol(&member.keeper.keys, cdb)?;
+    Ok(Passed { member, cdb })
 }
 
 /// Reasons 1 and 1b.
-fn find_unit(hashes: &impl Hashes, units: &[u8], unit: u32) -> Result<(usize, Unit), Reason> {
+fn find_unit(hashes: &impl Hashes, units: &[u8], unit: u32) -> Result<Member, Reason> {
     let place = unit as usize;
     if place >= UNITS {
         return Err(1);
@@ -67,7 +67,7 @@ fn find_unit(hashes: &impl Hashes, units: &[u8], unit: u32) -> Result<(usize, Un
     match records::read_unit(hashes, units, place) {
         Record::Unsound => Err(UNSOUND),
         Record::Empty => Err(1),
-        Record::Used(unit) => Ok((place, unit)),
+        Record::Used(member) => Ok(member),
     }
 }
 
@@ -83,17 +83,17 @@ fn find_need(cdb: &[u8]) -> Option<Need> {
 }
 
 /// Reasons 16 and 17.
-fn judge_protocol(unit: &Unit, cdb: &[u8]) -> Result<(), Reason> {
+fn judge_protocol(keys: &KeySet, cdb: &[u8]) -> Result<(), Reason> {
     match cdb[0] {
         codes::OUT if cdb_bytes(cdb) as usize != pages_out::total(page_code(cdb)) => Err(16),
-        codes::IN if page_code(cdb) == codes::IN_SEED && unit.next.is_none() => Err(17),
+        codes::IN if page_code(cdb) == codes::IN_SEED && keys.next.is_none() => Err(17),
         _ => Ok(()),
     }
 }
 
 /// What reasons 6 to 15 are judged against.
 struct Capability<'a> {
-    unit: &'a Unit,
+    member: &'a Member,
     need: Need,
     is_change: bool,
 }
@@ -131,7 +131,7 @@ impl Capability<'_> {
 
     /// On CAPKEY units, and for master rows always.
     fn capkey_rules(&self) -> bool {
-        self.unit.method == Method::CapKey || self.is_master()
+        self.member.unit.method == Method::CapKey || self.is_master()
     }
 
     /// Reasons 7 to 9.
@@ -159,11 +159,11 @@ impl Capability<'_> {
             return Err(11);
         }
         let tag = number(&descriptor[36..40]);
-        if tag != 0 && tag != u64::from(self.unit.tag) {
+        if tag != 0 && tag != u64::from(self.member.unit.tag) {
             return Err(12);
         }
         let named = descriptor[40] & 0x0f == 1 && descriptor[41] == 16;
-        if !named || descriptor[42..58] != self.unit.identifier {
+        if !named || descriptor[42..58] != self.member.unit.identifier {
             return Err(13);
         }
         Ok(())
@@ -172,14 +172,15 @@ impl Capability<'_> {
     /// The key that the row and the version call for, unless it is lacking
     /// (reason 14).
     fn key(&self, version: u8) -> Option<&Key> {
+        let keys = &self.member.keeper.keys;
         if !self.is_master() {
-            self.unit.working[usize::from(version)].as_ref()
+            keys.working[usize::from(version)].as_ref()
         } else if version != 0 {
             None
         } else if self.is_change {
-            self.unit.next.as_ref().map(|next| &next.authentication)
+            keys.next.as_ref().map(|next| &next.authentication)
         } else {
-            Some(&self.unit.master.authentication)
+            Some(&keys.master.authentication)
         }
     }
 }

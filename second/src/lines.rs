@@ -173,7 +173,18 @@ impl<'a, I: Iterator<Item = &'a [u8]>> Words<I> {
                 authentication: self.exactly(Fault::KeyLength)?,
                 generation: self.exactly(Fault::KeyLength)?,
             },
+            keeper: self.keeper()?,
         }))
+    }
+
+    /// What the record is to say of the keeper: one more than the number that
+    /// the line gives, or 0 where it names none.
+    fn keeper(&mut self) -> Result<u32, Fault> {
+        match self.next() {
+            Err(_) => Ok(0),
+            Ok(b"keeper") => Ok(self.number(u64::from(u32::MAX) - 1)? as u32 + 1),
+            Ok(_) => Err(Fault::SurplusWord),
+        }
     }
 
     fn open(&mut self) -> Result<Line, Fault> {
@@ -220,7 +231,11 @@ impl fmt::Display for Line {
                 write!(
                     f,
                     "build {unit} {method} {tag} {identifier} {authentication} {generation}"
-                )
+                )?;
+                match asked.keeper.checked_sub(1) {
+                    Some(keeper) => write!(f, " keeper {keeper}"),
+                    None => Ok(()),
+                }
             }
             Line::Open {
                 unit,
@@ -246,7 +261,7 @@ impl fmt::Display for Line {
 
 #[cfg(test)]
 mod tests {
-    use super::{parse, Fault, LONGEST};
+    use super::{parse, Fault, Line, LONGEST};
 
     const ID: &str = "000102030405060708090a0b0c0d0e0f";
     const KEY: &str = "000102030405060708090a0b0c0d0e0f10111213";
@@ -259,6 +274,8 @@ mod tests {
     fn lines_are_written_as_they_are_read() {
         for line in [
             &format!("build 0 1 4294967295 {ID} {KEY} {KEY}"),
+            &format!("build 1 0 7 {ID} {KEY} {KEY} keeper 0"),
+            &format!("build 1 0 7 {ID} {KEY} {KEY} keeper 4294967294"),
             "open 4294967295 18446744073709551615 00aabb -",
             "open 0 0 - 00",
             "close 15 7 ffee",
@@ -335,6 +352,39 @@ mod tests {
         let second = format!("{ID} {KEY} {KEY}00");
         assert_eq!(build(&second), Some(Fault::KeyLength));
         assert_eq!(build(&format!("{ID} {KEY}")), Some(Fault::MissingWord));
+    }
+
+    #[test]
+    fn keepers() {
+        let build = |rest: &str| parse(format!("build 0 0 0 {ID} {KEY} {KEY} {rest}").as_bytes());
+        for (rest, expected) in [
+            ("", 0),
+            ("# keeper 3", 0),
+            ("keeper 0", 1),
+            ("keeper  07", 8),
+            ("keeper 8", 9),
+            ("keeper 4294967294", u32::MAX),
+        ] {
+            match build(rest) {
+                Ok(Some(Line::Build(asked))) => assert_eq!(asked.keeper, expected, "{rest}"),
+                other => panic!("{other:?}"),
+            }
+        }
+        for (rest, expected) in [
+            ("keeper", Fault::MissingWord),
+            ("keeper # 3", Fault::MissingWord),
+            ("3", Fault::SurplusWord),
+            ("Keeper 3", Fault::SurplusWord),
+            ("keepers 3", Fault::SurplusWord),
+            ("keeper 3 3", Fault::SurplusWord),
+            ("keeper 3 keeper 3", Fault::SurplusWord),
+            ("keeper -1", Fault::NotANumber),
+            ("keeper keeper", Fault::NotANumber),
+            ("keeper 4294967295", Fault::NumberTooLarge),
+            ("keeper 4294967296", Fault::NumberTooLarge),
+        ] {
+            assert_eq!(build(rest).err(), Some(expected), "{rest}");
+        }
     }
 
     #[test]

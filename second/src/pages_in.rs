@@ -1,17 +1,17 @@
 //! The pages of SECURITY PROTOCOL IN that are answered here: document 01,
-//! "Pages".
+//! "Pages", and document 02, K4.
 
 use crate::codes::{self, Need, ROWS};
-use crate::records::Unit;
+use crate::records::Member;
 
 /// The whole page, before it is cut to the allocation length. Page 0012h is
 /// the crypto block's and has no bytes here.
-pub fn page(code: u16, unit: &Unit) -> Vec<u8> {
+pub fn page(code: u16, member: &Member) -> Vec<u8> {
     let parameters = match code {
         0x0000 => codes_of(codes::IN),
         0x0001 => codes_of(codes::OUT),
         0x0010 => capabilities(),
-        0x0011 => attributes(unit),
+        0x0011 => attributes(member),
         0x0013 => rows(),
         other => unreachable!("page {other:04x}h is not answered here"),
     };
@@ -30,13 +30,15 @@ fn codes_of(command: u8) -> Vec<u8> {
 
 fn capabilities() -> Vec<u8> {
     vec![
-        0x50, 0x00, 0x00, 0x02, 0x00, 0x00, 0x00, 0x01, //
+        0xd0, 0x00, 0x00, 0x02, 0x00, 0x00, 0x00, 0x01, //
         0x00, 0x01, 0x00, 0x01, 0x00, 0x01, 0x00, 0x0e,
     ]
 }
 
-fn attributes(unit: &Unit) -> Vec<u8> {
-    let (method, tag, mask) = (unit.method.number(), unit.tag, unit.mask());
+/// Method and tag are the unit's, the mask its keeper's.
+fn attributes(member: &Member) -> Vec<u8> {
+    let (method, tag) = (member.unit.method.number(), member.unit.tag);
+    let mask = member.keeper.keys.mask();
     [
         &method.to_be_bytes()[..],
         &tag.to_be_bytes(),

@@ -1,14 +1,19 @@
-//! The pages of SECURITY PROTOCOL OUT, their form and what they do to the
-//! unit: document 01, "Pages".
+//! The pages of SECURITY PROTOCOL OUT, their form and what they do to the unit
+//! or its keeper: document 01, "Pages", and document 02, K4.
 
 use crate::codes::{CHANGE, SEED_EXCHANGE, SET_ATTRIBUTES, SET_KEY};
 use crate::hashes::Hashes;
-use crate::records::{Key, Method, Pair, Unit};
+use crate::records::{Keeper, Key, Member, Method, Pair, UnitRecord};
 
 /// A parameter list of the right form.
 #[derive(Clone, Debug, PartialEq, Eq)]
 pub enum Page {
     SetAttributes { method: Method, tag: u32 },
+    Keys(KeyPage),
+}
+
+#[derive(Clone, Debug, PartialEq, Eq)]
+pub enum KeyPage {
     SetKey { version: usize, seed: [u8; 20] },
     SeedExchange { agreed: Box<[u8; 256]> },
     Change,
@@ -36,44 +41,64 @@ pub fn parse(page: u16, data: &[u8]) -> Option<Page> {
             method: Method::from_number(u16::from_be_bytes([*m0, *m1]).into())?,
             tag: u32::from_be_bytes([*t0, *t1, *t2, *t3]),
         }),
-        (SET_KEY, [version @ 0..=15, 0, 0, 0, seed @ ..]) => Some(Page::SetKey {
+        (SET_KEY, [version @ 0..=15, 0, 0, 0, seed @ ..]) => Some(Page::Keys(KeyPage::SetKey {
             version: usize::from(*version),
             seed: seed.try_into().ok()?,
-        }),
-        (SEED_EXCHANGE, [0x00, 0x0e, 0, 0, agreed @ ..]) => Some(Page::SeedExchange {
-            agreed: Box::new(agreed.try_into().ok()?),
-        }),
-        (CHANGE, []) => Some(Page::Change),
+        })),
+        (SEED_EXCHANGE, [0x00, 0x0e, 0, 0, agreed @ ..]) => {
+            Some(Page::Keys(KeyPage::SeedExchange {
+                agreed: Box::new(agreed.try_into().ok()?),
+            }))
+        }
+        (CHANGE, []) => Some(Page::Keys(KeyPage::Change)),
         _ => None,
     }
 }
 
 impl Page {
-    /// The page's effect on the unit.
-    pub fn carry_out(&self, hashes: &impl Hashes, unit: &mut Unit) {
+    /// The one record that the page makes anew, and its place: the unit's own
+    /// for attributes, the keeper's for keys.
+    pub fn carry_out(&self, hashes: &impl Hashes, mut member: Member) -> (usize, UnitRecord) {
         match self {
             Page::SetAttributes { method, tag } => {
-                unit.method = *method;
-                unit.tag = *tag;
+                member.unit.method = *method;
+                member.unit.tag = *tag;
+                (member.place, member.record())
             }
-            Page::SetKey { version, seed } => {
-                let key = hashes.hmac_sha1(&unit.master.generation, seed);
-                unit.working[*version] = Some(key);
-            }
-            Page::SeedExchange { agreed } => unit.next = Some(next_pair(hashes, unit, &agreed[..])),
-            Page::Change => {
-                // The command was judged with the next key, so there is one.
-                unit.master = unit.next.take().expect("reason 14 covers its lack");
-                unit.working = [None; 16];
+            Page::Keys(page) => {
+                let mut keeper = member.keeper;
+                page.carry_out(hashes, &mut keeper);
+                (keeper.place, keeper.record())
             }
         }
     }
 }
 
-/// Both next keys come from the current generation master key.
-fn next_pair(hashes: &impl Hashes, unit: &Unit, agreed: &[u8]) -> Pair {
-    let key: &Key = &unit.master.generation;
-    let mut seed = [agreed, &unit.identifier].concat();
+impl KeyPage {
+    fn carry_out(&self, hashes: &impl Hashes, keeper: &mut Keeper) {
+        match self {
+            KeyPage::SetKey { version, seed } => {
+                let key = hashes.hmac_sha1(&keeper.keys.master.generation, seed);
+                keeper.keys.working[*version] = Some(key);
+            }
+            KeyPage::SeedExchange { agreed } => {
+                keeper.keys.next = Some(next_pair(hashes, keeper, &agreed[..]));
+            }
+            KeyPage::Change => {
+                // The command was judged with the next key, so there is one.
+                let next = keeper.keys.next.take();
+                keeper.keys.master = next.expect("reason 14 covers its lack");
+                keeper.keys.working = [None; 16];
+            }
+        }
+    }
+}
+
+/// Both next keys come from the current generation master key, and from the
+/// keeper's identifier, whichever unit the command came to.
+fn next_pair(hashes: &impl Hashes, keeper: &Keeper, agreed: &[u8]) -> Pair {
+    let key: &Key = &keeper.keys.master.generation;
+    let mut seed = [agreed, &keeper.unit.identifier].concat();
     let generation = hashes.hmac_sha1(key, &seed);
     if let Some(last) = seed.last_mut() {
         *last ^= 1;

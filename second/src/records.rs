@@ -1,5 +1,6 @@
-//! Unit and slot records: document 01, "Records of 512 bytes". A sound record
-//! becomes a struct and is laid out again from it; an unsound one stays bytes.
+//! Unit and slot records: document 01, "Records of 512 bytes", and document 02,
+//! K4. A sound record becomes a struct and is laid out again from it; an unsound
+//! one stays bytes.
 
 use crate::codes;
 use crate::hashes::Hashes;
@@ -14,6 +15,9 @@ pub const UNITS: usize = 8;
 pub const SLOTS: usize = 16;
 pub const UNIT_TABLE: usize = UNITS * RECORD;
 pub const SLOT_TABLE: usize = SLOTS * RECORD;
+
+/// Where a unit's record says who keeps its keys.
+const KEEPER: usize = 432;
 
 /// Bytes kept for a command and for a token in a slot.
 const COMMAND_ROOM: usize = 100;
@@ -65,17 +69,54 @@ pub struct Pair {
     pub generation: Key,
 }
 
-/// A used unit.
-#[derive(Clone, Debug, PartialEq, Eq)]
+/// What stays a unit's own, whoever keeps its keys.
+#[derive(Clone, Copy, Debug, PartialEq, Eq)]
 pub struct Unit {
     pub method: Method,
     pub tag: u32,
     pub identifier: Identifier,
+}
+
+/// Keys; which of them there are tells mask and step.
+#[derive(Clone, Debug, PartialEq, Eq)]
+pub struct KeySet {
     pub master: Pair,
     /// The next pair, while a seed exchange is pending (step 1).
     pub next: Option<Pair>,
     /// The valid working keys by version. A valid key may itself be zero.
     pub working: [Option<Key>; 16],
+}
+
+/// Bytes 432-433 of a unit record and what goes with them.
+#[derive(Clone, Debug, PartialEq, Eq)]
+pub enum Keys {
+    /// Zero: the record has its own.
+    Own(Box<KeySet>),
+    /// One more than this number: that unit keeps them, and the record has none.
+    KeptBy(usize),
+}
+
+/// A used unit as its record alone tells of it.
+#[derive(Clone, Debug, PartialEq, Eq)]
+pub struct UnitRecord {
+    pub unit: Unit,
+    pub keys: Keys,
+}
+
+/// A unit with keys of its own.
+#[derive(Clone, Debug, PartialEq, Eq)]
+pub struct Keeper {
+    pub place: usize,
+    pub unit: Unit,
+    pub keys: Box<KeySet>,
+}
+
+/// A used unit and the keeper of its keys: itself or, of a sharer, another.
+#[derive(Clone, Debug, PartialEq, Eq)]
+pub struct Member {
+    pub place: usize,
+    pub unit: Unit,
+    pub keeper: Keeper,
 }
 
 /// An open slot.
@@ -86,22 +127,25 @@ pub struct Slot {
     pub token: Vec<u8>,
 }
 
-impl Unit {
+impl KeySet {
+    /// As a unit is built with: no working key valid, no exchange pending.
+    pub fn new(master: Pair) -> Self {
+        KeySet {
+            master,
+            next: None,
+            working: [None; 16],
+        }
+    }
+
     pub fn mask(&self) -> u16 {
         let valid = (0..16).filter(|version| self.working[*version].is_some());
         valid.fold(0, |mask, version| mask | 1 << version)
     }
 
-    /// The bytes before the check, for the unit of this number.
-    pub fn encode(&self, place: usize) -> Body {
-        let mut body = [0; BODY];
+    /// Lays mask, step and keys into their places.
+    fn encode(&self, body: &mut Body) {
         let mut put = |at: usize, bytes: &[u8]| body[at..][..bytes.len()].copy_from_slice(bytes);
-        put(0, &[0, 1]);
-        put(2, &(place as u16).to_be_bytes());
-        put(4, &self.method.number().to_be_bytes());
         put(6, &self.mask().to_be_bytes());
-        put(8, &self.tag.to_be_bytes());
-        put(16, &self.identifier);
         put(32, &self.master.authentication);
         put(52, &self.master.generation);
         if let Some(next) = &self.next {
@@ -114,22 +158,16 @@ impl Unit {
                 put(112 + 20 * version, key);
             }
         }
-        body
     }
 
-    /// The unit that these bytes before the check are the encoding of. To
-    /// compare with the encoding settles the number and every zero.
-    pub fn decode(body: &Body, place: usize) -> Option<Unit> {
+    fn decode(body: &Body) -> Option<KeySet> {
         let pair = |at| Pair {
             authentication: bytes(body, at),
             generation: bytes(body, at + 20),
         };
         let mask = u16::from_be_bytes(bytes(body, 6));
         let working_key = |version| bytes(body, 112 + 20 * version);
-        let unit = Unit {
-            method: Method::from_number(u16::from_be_bytes(bytes(body, 4)).into())?,
-            tag: u32::from_be_bytes(bytes(body, 8)),
-            identifier: bytes(body, 16),
+        Some(KeySet {
             master: pair(32),
             next: match u32::from_be_bytes(bytes(body, 12)) {
                 0 => None,
@@ -139,8 +177,82 @@ impl Unit {
             working: array::from_fn(|version| {
                 (mask >> version & 1 == 1).then(|| working_key(version))
             }),
+        })
+    }
+}
+
+impl Keys {
+    fn encode(&self, body: &mut Body) {
+        match self {
+            Keys::Own(keys) => keys.encode(body),
+            Keys::KeptBy(keeper) => {
+                body[KEEPER..][..2].copy_from_slice(&(*keeper as u16 + 1).to_be_bytes());
+            }
+        }
+    }
+
+    fn decode(body: &Body) -> Option<Keys> {
+        match usize::from(u16::from_be_bytes(bytes(body, KEEPER))) {
+            0 => KeySet::decode(body).map(|keys| Keys::Own(Box::new(keys))),
+            one_more @ 1..=UNITS => Some(Keys::KeptBy(one_more - 1)),
+            _ => None,
+        }
+    }
+}
+
+impl UnitRecord {
+    /// The bytes before the check, for the unit of this number.
+    pub fn encode(&self, place: usize) -> Body {
+        let mut body = [0; BODY];
+        self.keys.encode(&mut body);
+        let mut put = |at: usize, bytes: &[u8]| body[at..][..bytes.len()].copy_from_slice(bytes);
+        put(0, &[0, 1]);
+        put(2, &(place as u16).to_be_bytes());
+        put(4, &self.unit.method.number().to_be_bytes());
+        put(8, &self.unit.tag.to_be_bytes());
+        put(16, &self.unit.identifier);
+        body
+    }
+
+    /// The unit that these bytes before the check are the encoding of. To
+    /// compare with the encoding settles the number and every zero.
+    pub fn decode(body: &Body, place: usize) -> Option<UnitRecord> {
+        let record = UnitRecord {
+            unit: Unit {
+                method: Method::from_number(u16::from_be_bytes(bytes(body, 4)).into())?,
+                tag: u32::from_be_bytes(bytes(body, 8)),
+                identifier: bytes(body, 16),
+            },
+            keys: Keys::decode(body)?,
         };
-        (unit.encode(place) == *body).then_some(unit)
+        (record.encode(place) == *body).then_some(record)
+    }
+}
+
+impl Keeper {
+    pub fn record(self) -> UnitRecord {
+        UnitRecord {
+            unit: self.unit,
+            keys: Keys::Own(self.keys),
+        }
+    }
+}
+
+impl Member {
+    pub fn is_sharer(&self) -> bool {
+        self.place != self.keeper.place
+    }
+
+    /// The unit's own record, not its keeper's.
+    pub fn record(self) -> UnitRecord {
+        UnitRecord {
+            unit: self.unit,
+            keys: if self.is_sharer() {
+                Keys::KeptBy(self.keeper.place)
+            } else {
+                Keys::Own(self.keeper.keys)
+            },
+        }
     }
 }
 
@@ -191,16 +303,49 @@ fn bytes<const N: usize>(body: &Body, at: usize) -> [u8; N] {
     array::from_fn(|i| body[at + i])
 }
 
-pub fn read_unit(hashes: &impl Hashes, table: &[u8], place: usize) -> Record<Unit> {
-    read(hashes, table, place, |body| Unit::decode(body, place))
+/// The unit's record by itself.
+pub fn read_unit_record(hashes: &impl Hashes, table: &[u8], place: usize) -> Record<UnitRecord> {
+    read(hashes, table, place, |body| UnitRecord::decode(body, place))
+}
+
+/// The unit, if it may keep another's keys.
+pub fn read_keeper(hashes: &impl Hashes, table: &[u8], place: usize) -> Option<Keeper> {
+    match read_unit_record(hashes, table, place) {
+        Record::Used(UnitRecord {
+            unit,
+            keys: Keys::Own(keys),
+        }) => Some(Keeper { place, unit, keys }),
+        _ => None,
+    }
+}
+
+/// The unit with its keeper. A sharer that has none is unsound, and so is one
+/// that names itself.
+pub fn read_unit(hashes: &impl Hashes, table: &[u8], place: usize) -> Record<Member> {
+    let UnitRecord { unit, keys } = match read_unit_record(hashes, table, place) {
+        Record::Used(record) => record,
+        Record::Unsound => return Record::Unsound,
+        Record::Empty => return Record::Empty,
+    };
+    let keeper = match keys {
+        Keys::Own(keys) => Some(Keeper { place, unit, keys }),
+        Keys::KeptBy(keeper) => read_keeper(hashes, table, keeper),
+    };
+    keeper.map_or(Record::Unsound, |keeper| {
+        Record::Used(Member {
+            place,
+            unit,
+            keeper,
+        })
+    })
 }
 
 pub fn read_slot(hashes: &impl Hashes, table: &[u8], place: usize) -> Record<Slot> {
     read(hashes, table, place, Slot::decode)
 }
 
-pub fn write_unit(hashes: &impl Hashes, table: &mut [u8], place: usize, unit: &Unit) {
-    write(hashes, table, place, &unit.encode(place));
+pub fn write_unit(hashes: &impl Hashes, table: &mut [u8], place: usize, record: &UnitRecord) {
+    write(hashes, table, place, &record.encode(place));
 }
 
 pub fn write_slot(hashes: &impl Hashes, table: &mut [u8], place: usize, slot: &Slot) {

@@ -11,6 +11,8 @@ ghost use Prim.Native.Nat.{_<_};
 ghost use lib.Dec.{eqb};
 ghost use lib.ListN.{length};
 ghost use Rattle.model.specs.Totals.{totalOf};
+ghost use Rattle.units.specs.Unit.{unitState};
+ghost use Rattle.units.specs.declared.UnitState.the-variants.{Used};
 ghost use Rattle.slots.specs.Slot.{slotStateOf};
 ghost use Rattle.slots.specs.declared.SlotState.the-variants.{Open};
 ghost use Rattle.judge.specs.Command.{codeOf, pageOf, factsOf};
@@ -58,7 +60,7 @@ fn close_reason(
 
 // Does what an Out page says, with a list that nothing is wrong with: to the unit's attributes, or to its key set, where its keeper has it.
 fn obey(units: &mut [u8], unit: UnitNo, page: u32, list: &[u8])
-    requires { ⌜ (length (now units) ≡ 4096) × (unit .0 < 8) × (length (now list) ≡ totalOf page) × (wrongList page (now list) ≡ false) ⌝ }
+    requires { ⌜ (length (now units) ≡ 4096) × (unit .0 < 8) × (unitState (now units) (unit .0) ≡ Used) × (length (now list) ≡ totalOf page) × (wrongList page (now list) ≡ false) ⌝ }
     ensures { λ _. ⌜ now (units .exit) ≡ laid (now (units .entry)) (unit .0) (madeBy (seen (now (units .entry)) (unit .0)) page (now (list .entry))) ⌝ }
 {
     if page == model::SET_ATTRIBUTES {
@@ -75,7 +77,7 @@ fn obey(units: &mut [u8], unit: UnitNo, page: u32, list: &[u8])
 
 // Answers a command that passed: B5h does what its page says, any other is run by medium or crypto block.
 fn finish(units: &mut [u8], unit: UnitNo, command: &[u8], facts: Facts, list: &[u8]) -> Answer
-    requires { ⌜ (length (now units) ≡ 4096) × (unit .0 < 8) × (facts ≡ factsOf (now command)) × (isReplied (now command) ≡ false) × (eqb (codeOf (now command)) 0xB5 ≡ true → (length (now list) ≡ totalOf (pageOf (now command))) × (wrongList (pageOf (now command)) (now list) ≡ false)) ⌝ }
+    requires { ⌜ (length (now units) ≡ 4096) × (unit .0 < 8) × (unitState (now units) (unit .0) ≡ Used) × (facts ≡ factsOf (now command)) × (isReplied (now command) ≡ false) × (eqb (codeOf (now command)) 0xB5 ≡ true → (length (now list) ≡ totalOf (pageOf (now command))) × (wrongList (pageOf (now command)) (now list) ≡ false)) ⌝ }
     ensures { λ r. ⌜ leaves r (now (units .exit)) ≡ onUnits (stored (now (units .entry)) (unit .0) (passed (seen (now (units .entry)) (unit .0)) (now (command .entry)) (now (list .entry)))) ⌝ }
 {
     let code = facts.code;

@@ -9,6 +9,8 @@ ghost use mathlib.Core.List.{[]};
 ghost use Prim.Native.Nat.{_≤_, _<_};
 ghost use lib.Dec.{eqb};
 ghost use lib.ListN.{length};
+ghost use Rattle.units.specs.Unit.{unitState};
+ghost use Rattle.units.specs.declared.UnitState.the-variants.{Used};
 ghost use Rattle.slots.specs.Slot.{rightToken, lowestFree};
 ghost use Rattle.judge.specs.Command.{codeOf, factsOf};
 ghost use Rattle.judge.specs.Seen.{seen};
@@ -59,7 +61,7 @@ fn is_replied(command: &[u8], facts: Facts) -> bool
 
 // Answers a command that passed and carries no data out: a page is replied here, the rest is run elsewhere.
 fn answer(reply: &mut [u8], units: &[u8], unit: UnitNo, command: &[u8], facts: Facts) -> Answer
-    requires { ⌜ (length (now reply) ≡ 512) × (length (now units) ≡ 4096) × (unit .0 < 8) × (facts ≡ factsOf (now command)) × (eqb (codeOf (now command)) 0xB5 ≡ false) ⌝ }
+    requires { ⌜ (length (now reply) ≡ 512) × (length (now units) ≡ 4096) × (unit .0 < 8) × (unitState (now units) (unit .0) ≡ Used) × (facts ≡ factsOf (now command)) × (eqb (codeOf (now command)) 0xB5 ≡ false) ⌝ }
     ensures { λ r. ⌜ leaves r (now (reply .exit)) ≡ onReply (now (reply .entry)) (passed (seen (now (units .entry)) (unit .0)) (now (command .entry)) []) ⌝ }
 {
     if is_replied(command, facts) {

@@ -6,6 +6,7 @@ use super::words::end_fault;
 use super::words::is_wrong;
 use super::words::take_bytes;
 use super::words::take_exactly;
+use super::words::take_keeper;
 use super::words::take_number;
 use super::words::take_small;
 use super::words::word_at;
@@ -22,13 +23,14 @@ pub enum Table {
 }
 
 // What a line asks for. Byte strings stand in the space lent for them, one after another; a number says where one ends. Build's are the
-// identifier, 16 bytes, and the two keys, 20 bytes each.
+// identifier, 16 bytes, and the two keys, 20 bytes each; its keeper is the field's value, zero or one more than the keeper's number.
 pub enum Call {
     Blank,
     Build {
         unit: UnitNo,
         method: u32,
         tag: u32,
+        keeper: u32,
     },
     Open {
         unit: UnitNo,
@@ -71,12 +73,15 @@ fn read_build(line: &[u8], r: Reading, space: &mut [u8]) -> Call {
     let identifier = take_exactly(line, after_tag, space, 16, Fault::IdentifierLength);
     let auth_key = take_exactly(line, identifier, space, 20, Fault::KeyLength);
     let gen_key = take_exactly(line, auth_key, space, 20, Fault::KeyLength);
+    let keeper = take_keeper(line, gen_key);
+    let after_keeper = keeper.next;
     let call = Call::Build {
         unit: UnitNo(unit.value),
         method: method.value,
         tag: tag.value,
+        keeper: keeper.value,
     };
-    asked(line, gen_key, call)
+    asked(line, after_keeper, call)
 }
 
 fn read_open(line: &[u8], r: Reading, space: &mut [u8]) -> Call {

@@ -186,6 +186,31 @@ pub fn take_small(line: &[u8], r: Reading) -> Small {
     }
 }
 
+// Where the next word is `keeper`, the keeper field that the number behind it asks for: one more than the keeper's number. Any other word
+// is left where it stands, and the field is zero.
+pub fn take_keeper(line: &[u8], r: Reading) -> Small {
+    let fault = r.fault;
+    let at = r.at;
+    if is_wrong(fault) {
+        return Small { value: 0, next: r };
+    }
+    if check::same(word_at(line, at), b"keeper") {
+        let after = Reading {
+            at: word_end(line, at),
+            used: r.used,
+            fault: Fault::Nothing,
+        };
+        let unit = take_number(line, after, 0xffff_fffe);
+        let next = unit.next;
+        let number = unit.value as u32;
+        return Small {
+            value: number + 1,
+            next,
+        };
+    }
+    Small { value: 0, next: r }
+}
+
 // ---- byte strings
 
 // The next word as a byte string, laid into space from r.used on.

@@ -26,7 +26,7 @@ use Rattle.judge.specs.Seen.{Seen, seen}
 use Rattle.judge.specs.Judgement.{Test, first, unitTests, codeTests, lengthTests, protocolTests, skipsGuard, bareTests, formTests, factTests, foundTests, valueTests, credentialTests, guardTests, pageTests, earlierTests, laterTests, openTests, openReason}
 use Rattle.pages.specs.InLaws.{reply-small}
 use Rattle.calls.specs.Outcome.{TableOutcome, leaves, Lent, Outcome, rightlyLent}
-use Rattle.calls.specs.Build.{buildOut}
+use Rattle.calls.specs.Build.{rightKeeper, buildOut}
 use Rattle.calls.specs.Slots.{holds, abortOut, resetOut}
 use Rattle.calls.specs.Whole.{Asked, listTests, closeReason, Local, isReplied, replyTo, passed, judged, whole}
 use Rattle.calls.specs.Open.{parks, parkedIn, judgedOut, openOut}
@@ -148,13 +148,13 @@ close-back l s d clock =
 back : (a : Answer) (t : List ℕ) → FitsItsBytes a → Back (leaves a t)
 back a t h = record { same = paper-back a h }
 
-pub build-back : (units : List ℕ) (u m t : ℕ) (id auth gen : List ℕ)
-    → paperIn (packedPaper (buildOut units u m t id auth gen .answer)) ≡ buildOut units u m t id auth gen .answer
+pub build-back : (units : List ℕ) (u m t : ℕ) (id auth gen : List ℕ) (k : ℕ)
+    → paperIn (packedPaper (buildOut units u m t id auth gen k .answer)) ≡ buildOut units u m t id auth gen k .answer
 unfolding buildOut
-build-back units u m t id auth gen =
+build-back units u m t id auth gen k =
     pick-holds Back (eqb (length units) 4096) _ _
-    (pick-holds Back (both (leb u 7) (leb m 1)) _ _
-    (back (Good 0) (patch units (u * 512) (usedRecord (built u m t id auth gen))) (omega arith, (omega arith, tt)))
+    (pick-holds Back (both (leb u 7) (both (leb m 1) (rightKeeper units u k))) _ _
+    (back (Good 0) (patch units (u * 512) (usedRecord (built u m t id auth gen k))) (omega arith, (omega arith, tt)))
     (back H5 units tt))
     (back H1 units tt) .same
 

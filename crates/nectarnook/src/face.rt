@@ -67,8 +67,9 @@ pub extern "C" fn nn_build(
     identifier: &[u8; 16],
     auth_key: &[u8; 20],
     gen_key: &[u8; 20],
+    keeper: u32,
 ) -> u64
-    ensures { λ r. ⌜ returnedOne r (now (units .exit)) ≡ packedOne (buildOut (now (units .entry)) unit method tag (now (identifier .entry)) (now («auth_key» .entry)) (now («gen_key» .entry))) ⌝ }
+    ensures { λ r. ⌜ returnedOne r (now (units .exit)) ≡ packedOne (buildOut (now (units .entry)) unit method tag (now (identifier .entry)) (now («auth_key» .entry)) (now («gen_key» .entry)) keeper) ⌝ }
 {
     pack(calls::build(
         units,
@@ -78,6 +79,7 @@ pub extern "C" fn nn_build(
         identifier,
         auth_key,
         gen_key,
+        keeper,
     ))
 }
 

@@ -1,4 +1,5 @@
--- What each effect leaves of a record (document 01, "Pages", Effects): its length, soundness at the same place, and every field.
+-- What each effect leaves of a record (document 01, "Pages", Effects): its length, that it is used at the same place by its own bytes, and
+-- every field.
 use mathlib.Core.Path.{_≡_, refl, sym, ap, _∙_}
 use mathlib.Core.Logic.{_⊎_, inl, inr}
 use mathlib.Core.Bool.{Bool, true, false}
@@ -15,27 +16,27 @@ use Rattle.choice.specs.ChoiceLaws.{either-right}
 use Rattle.wire.specs.Bytes.{part, number, bytesOf, zeros, patch}
 use Rattle.wire.specs.PatchLaws.{length-patch}
 use Rattle.wire.specs.NumberLaws.{bytes-length, number-bytes, number-inside}
-use Rattle.wire.specs.ZeroLaws.{zeros-all, zeros-part, zeros-replicate}
+use Rattle.wire.specs.ZeroLaws.{zeros-of, zeros-part, zeros-replicate}
 use Rattle.hmac.specs.Hmac.{hmac, bySha1}
 use Rattle.hmac.specs.HmacLaws.{hmac-length, sha1-lawful}
 use Rattle.md.specs.Padding.{blockCount}
 use Rattle.units.specs.declared.UnitState.the-variants.{Used}
-use Rattle.units.specs.Unit.{method, mask, policyTag, step, identifier, authKey, genKey, nextAuthKey, nextGenKey, nextPairZero, workingKey, isValid, unitStateOf}
+use Rattle.units.specs.Unit.{method, mask, policyTag, step, identifier, authKey, genKey, nextAuthKey, nextGenKey, nextPairZero, workingKey, isValid, keeperField, noKeys, unitStateOf}
 use Rattle.model.specs.Protocol.{seedExchange, setKey, changeMaster}
 use Rattle.pages.specs.Out.{newVersion, seed, agreed, wrongList}
 use Rattle.pages.specs.Effects.{attributesSet, withBit, workingKeySet, nextAuth, nextGen, exchanged, changed, newKeys}
 use Rattle.pages.specs.OutLaws.{part-length, right-version}
 use Rattle.pages.specs.BitLaws.{with-here, with-other, bytes-bit}
 use Rattle.pages.specs.RecordLaws.{Alike, alike-trans, alike-number, alike-zeros, alike-part, narrow, patch-alike, Twice, twice-holds}
-use Rattle.pages.specs.FieldLaws.{ValidOrZero, Shape, shape-of, SameFrame, SamePolicy, SameMaster, SameNext, SameWorking, same-frame, same-policy, same-master, same-next, same-working, used-kept, known-kept, pending-kept, pair-kept, keys-kept}
+use Rattle.pages.specs.FieldLaws.{ValidOrZero, Shape, shape-of, SameFrame, SamePolicy, SameMaster, SameNext, SameWorking, same-frame, same-policy, same-master, same-next, same-working, used-kept, known-kept, pending-kept, pair-kept, keys-kept, own-keeper, keeper-kept}
 
--- ---- keys of 20 bytes: an HMAC is one, and two make one patch; a part of zeros
+-- ---- keys of 20 bytes: an HMAC is one, and two make one patch
 
-mac-length : (k m : List ℕ) → length (hmac bySha1 k m) ≡ 20
+pub mac-length : (k m : List ℕ) → length (hmac bySha1 k m) ≡ 20
 mac-length k m = hmac-length bySha1 20 blockCount sha1-lawful k m
 
 module _ (x y : List ℕ) (hx : length x ≡ 20) (hy : length y ≡ 20) where
-  pair-length : length (x ++ y) ≡ 40
+  pub pair-length : length (x ++ y) ≡ 40
   pair-length = length-append x y ∙ omega arith
 
   first-of : part 0 20 (x ++ y) ≡ x
@@ -43,10 +44,6 @@ module _ (x y : List ℕ) (hx : length x ≡ 20) (hy : length y ≡ 20) where
 
   second-of : part 20 20 (x ++ y) ≡ y
   second-of = ap (take 20) (drop-at x y 20 hx) ∙ take-all 20 y (omega arith)
-
-zeros-of : (n a : ℕ) (l : List ℕ) → part a n l ≡ replicate n 0 → zeros n a l ≡ true
-zeros-of n a l e =
-    zeros-all n a l (λ i h. sym (getD-take n (drop a l) i 0 h ∙ getD-drop a l i 0) ∙ ap (λ (x : List ℕ). getD x i 0) e ∙ getD-replicate n i 0 0 h)
 
 -- ---- Set Attributes: method and tag
 
@@ -84,10 +81,16 @@ module _ (m t : ℕ) (rec : List ℕ) (full : length rec ≡ 512) where
       same-working full (attributes .full) (narrow (attributes .between) (omega arith) (omega arith))
       (narrow (attributes .above) (omega arith) (omega arith))
 
+  attributes-no-keys : noKeys (attributesSet m t rec) ≡ noKeys rec
+  unfolding noKeys
+  attributes-no-keys =
+      rw (attributes-working .same-mask, attributes-next .same-step, alike-zeros (attributes .above) 400 32 (omega arith) (omega arith))
+
   pub attributes-used : (u : ℕ) → m ≤ 1 → unitStateOf u rec ≡ Used → unitStateOf u (attributesSet m t rec) ≡ Used
   attributes-used u h sound =
       let s = shape-of u rec sound in
-      used-kept s (attributes .sealed) attributes-frame (rw (attributes-method (omega arith)) h) (pending-kept s attributes-next) (pair-kept s attributes-next) (keys-kept s attributes-working)
+      used-kept s (attributes .sealed) attributes-frame (rw (attributes-method (omega arith)) h) (pending-kept s attributes-next)
+      (pair-kept s attributes-next) (keys-kept s attributes-working) (keeper-kept s attributes-frame attributes-no-keys)
 
 -- ---- Set Key: a working key and its bit
 
@@ -160,10 +163,11 @@ module _ (v : ℕ) (s rec : List ℕ) (hv : v < 16) (full : length rec ≡ 512) 
       let other = eqb-false w v e in
       rw (key-other-valid w hw other, key-other-zero w hw other) (shape .keys w hw)
 
-  pub key-used : (u : ℕ) → unitStateOf u rec ≡ Used → unitStateOf u (workingKeySet v s rec) ≡ Used
-  key-used u sound =
+  pub key-used : (u : ℕ) → unitStateOf u rec ≡ Used → keeperField rec ≡ 0 → unitStateOf u (workingKeySet v s rec) ≡ Used
+  key-used u sound own =
       let s = shape-of u rec sound in
-      used-kept s (key .sealed) key-frame (known-kept s key-policy) (pending-kept s key-next) (pair-kept s key-next) (λ w hw. keys-shaped s w hw (eqb w v) refl)
+      used-kept s (key .sealed) key-frame (known-kept s key-policy) (pending-kept s key-next) (pair-kept s key-next)
+      (λ w hw. keys-shaped s w hw (eqb w v) refl) (own-keeper key-frame own)
 
   -- from a clear bit the record differs
   pub key-differs : isValid v rec ≡ false → workingKeySet v s rec ≡ rec → ⊥
@@ -175,11 +179,11 @@ module _ (v : ℕ) (s rec : List ℕ) (hv : v < 16) (full : length rec ≡ 512) 
 -- ---- Seed Exchange: the next pair, and step 1
 
 module _ (value rec : List ℕ) (full : length rec ≡ 512) where
-  auth-length : length (nextAuth value rec) ≡ 20
+  pub auth-length : length (nextAuth value rec) ≡ 20
   unfolding nextAuth
   auth-length = mac-length (genKey rec) _
 
-  generation-length : length (nextGen value rec) ≡ 20
+  pub generation-length : length (nextGen value rec) ≡ 20
   unfolding nextGen
   generation-length = mac-length (genKey rec) _
 
@@ -224,10 +228,11 @@ module _ (value rec : List ℕ) (full : length rec ≡ 512) where
   exchanged-next-generation =
       exchange .second-part 20 20 (omega arith) ∙ second-of (nextAuth value rec) (nextGen value rec) auth-length generation-length
 
-  pub exchanged-used : (u : ℕ) → unitStateOf u rec ≡ Used → unitStateOf u (exchanged value rec) ≡ Used
-  exchanged-used u sound =
+  pub exchanged-used : (u : ℕ) → unitStateOf u rec ≡ Used → keeperField rec ≡ 0 → unitStateOf u (exchanged value rec) ≡ Used
+  exchanged-used u sound own =
       let s = shape-of u rec sound in
-      used-kept s (exchange .sealed) exchanged-frame (known-kept s exchanged-policy) (rw exchanged-step (omega arith)) (rw exchanged-step) (keys-kept s exchanged-working)
+      used-kept s (exchange .sealed) exchanged-frame (known-kept s exchanged-policy) (rw exchanged-step (omega arith)) (rw exchanged-step)
+      (keys-kept s exchanged-working) (own-keeper exchanged-frame own)
 
 -- ---- Change: the next pair becomes the pair; next and working keys, mask and step are zero
 
@@ -252,11 +257,11 @@ module _ (rec : List ℕ) (full : length rec ≡ 512) where
   unfolding cleared
   cleared-length = length-patch unmasked 12 (bytesOf 4 0) fits-step ∙ unmasked-length
 
-  next-auth-length : length (nextAuthKey rec) ≡ 20
+  pub next-auth-length : length (nextAuthKey rec) ≡ 20
   unfolding nextAuthKey
   next-auth-length = part-length 72 20 rec (rw full (omega arith))
 
-  next-generation-length : length (nextGenKey rec) ≡ 20
+  pub next-generation-length : length (nextGenKey rec) ≡ 20
   unfolding nextGenKey
   next-generation-length = part-length 92 20 rec (rw full (omega arith))
 
@@ -348,11 +353,11 @@ module _ (rec : List ℕ) (full : length rec ≡ 512) where
   unfolding workingKey
   key-zero w h = zeros-of 20 (112 + 20 * w) (changed rec) (changed-working w h)
 
-  pub changed-used : (u : ℕ) → unitStateOf u rec ≡ Used → unitStateOf u (changed rec) ≡ Used
-  changed-used u sound =
+  pub changed-used : (u : ℕ) → unitStateOf u rec ≡ Used → keeperField rec ≡ 0 → unitStateOf u (changed rec) ≡ Used
+  changed-used u sound own =
       let s = shape-of u rec sound in
       used-kept s (change .sealed) changed-frame (known-kept s changed-policy) (rw changed-step (omega arith)) (either-right (eqb (step (changed rec)) 1) (nextPairZero (changed rec)) pair-zero)
-      (λ w h. either-right (isValid w (changed rec)) _ (key-zero w h))
+      (λ w h. either-right (isValid w (changed rec)) _ (key-zero w h)) (own-keeper changed-frame own)
 
 -- ---- whatever the page: what holds of each effect, and of the key set as it was, holds of the one that the page leaves
 
@@ -375,7 +380,15 @@ module _ (page : ℕ) (d keys : List ℕ) where
         new-holds (λ (l : List ℕ). length l ≡ 512) (λ e. key-length (newVersion d) (seed d) keys (right-version page d e right) full)
         (exchanged-length (agreed d) keys full) (changed-length keys full) full
 
-    pub new-used : (u : ℕ) → unitStateOf u keys ≡ Used → unitStateOf u (newKeys page d keys) ≡ Used
-    new-used u sound =
-        new-holds (λ (l : List ℕ). unitStateOf u l ≡ Used) (λ e. key-used (newVersion d) (seed d) keys (right-version page d e right) full u sound)
-        (exchanged-used (agreed d) keys full u sound) (changed-used keys full u sound) sound
+    -- the key set of a unit with keys of its own stays used, and its own
+    pub new-used : (u : ℕ) → unitStateOf u keys ≡ Used → keeperField keys ≡ 0 → unitStateOf u (newKeys page d keys) ≡ Used
+    new-used u sound own =
+        new-holds (λ (l : List ℕ). unitStateOf u l ≡ Used)
+        (λ e. key-used (newVersion d) (seed d) keys (right-version page d e right) full u sound own)
+        (exchanged-used (agreed d) keys full u sound own) (changed-used keys full u sound own) sound
+
+    pub new-field : keeperField (newKeys page d keys) ≡ keeperField keys
+    new-field =
+        new-holds (λ (l : List ℕ). keeperField l ≡ keeperField keys)
+        (λ e. key-frame (newVersion d) (seed d) keys (right-version page d e right) full .same-field)
+        (exchanged-frame (agreed d) keys full .same-field) (changed-frame keys full .same-field) refl

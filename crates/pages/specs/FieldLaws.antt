@@ -14,7 +14,7 @@ use Rattle.wire.specs.Bytes.{number, zeros}
 use Rattle.wire.specs.ZeroLaws.{zeros-within, number-zeros}
 use Rattle.seal.specs.Seal.{checked}
 use Rattle.units.specs.declared.UnitState.the-variants.{Unused, Used, Unsound}
-use Rattle.units.specs.Unit.{layout, unitNumber, method, mask, policyTag, step, identifier, authKey, genKey, nextAuthKey, nextGenKey, nextPairZero, workingKey, isValid, keysZero, unnamedZero, usedShape, unitStateOf}
+use Rattle.units.specs.Unit.{layout, unitNumber, method, mask, policyTag, step, identifier, authKey, genKey, nextAuthKey, nextGenKey, nextPairZero, workingKey, isValid, keysZero, keeperField, noKeys, keeperShape, unnamedZero, usedShape, unitStateOf}
 use Rattle.pages.specs.RecordLaws.{Alike, alike-number, alike-zeros, alike-part}
 
 -- ---- used: the check, and the tests of the shape, each passed
@@ -30,6 +30,7 @@ pub record Shape (u : ℕ) (l : List ℕ) : Type 0 where
   pub pending : step l ≤ 1
   pub pair : either (eqb (step l) 1) (nextPairZero l) ≡ true
   pub keys : (v : ℕ) → v < 16 → ValidOrZero l v
+  pub keeper : keeperShape l ≡ true
   pub unnamed : unnamedZero l ≡ true
 
 keys-each : (n : ℕ) (l : List ℕ) → keysZero n l ≡ true → (v : ℕ) → v < n → ValidOrZero l v
@@ -60,6 +61,7 @@ module _ (u : ℕ) (l : List ℕ) where
       let p₄ = both-true (leb (step l) 1) _ (p₃ .1) in
       let p₅ = both-true (either (eqb (step l) 1) (nextPairZero l)) _ (p₄ .1) in
       let p₆ = both-true (keysZero 16 l) _ (p₅ .1) in
+      let p₇ = both-true (keeperShape l) (unnamedZero l) (p₆ .1) in
       record {
         first = eqb-true (layout l) 1 (p₁ .0);
         place = eqb-true (unitNumber l) u (p₂ .0);
@@ -67,7 +69,8 @@ module _ (u : ℕ) (l : List ℕ) where
         pending = leb-true (step l) 1 (p₄ .0);
         pair = p₅ .0;
         keys = keys-each 16 l (p₆ .0);
-        unnamed = p₆ .1;
+        keeper = p₇ .0;
+        unnamed = p₇ .1;
       }
 
   pub shape-of : unitStateOf u l ≡ Used → Shape u l
@@ -82,13 +85,25 @@ module _ (u : ℕ) (l : List ℕ) where
   pub used-of : checked l ≡ true → Shape u l → unitStateOf u l ≡ Used
   unfolding unitStateOf usedShape
   used-of k s =
-      rw (k, not-zero (s .first) (zeros 492 0 l) refl, eq-eqb (layout l) 1 (s .first), eq-eqb (unitNumber l) u (s .place), le-leb (method l) 1 (s .known), le-leb (step l) 1 (s .pending), s .pair, keys-all 16 l (s .keys), s .unnamed)
+      rw (
+        k,
+        not-zero (s .first) (zeros 492 0 l) refl,
+        eq-eqb (layout l) 1 (s .first),
+        eq-eqb (unitNumber l) u (s .place),
+        le-leb (method l) 1 (s .known),
+        le-leb (step l) 1 (s .pending),
+        s .pair,
+        keys-all 16 l (s .keys),
+        s .keeper,
+        s .unnamed,
+      )
 
 -- ---- groups of fields that an effect leaves as they were, with the zeros that soundness asks for
 
 pub record SameFrame (old new : List ℕ) : Type 0 where
   pub same-layout : layout new ≡ layout old
   pub same-number : unitNumber new ≡ unitNumber old
+  pub same-field : keeperField new ≡ keeperField old
   pub same-unnamed : unnamedZero new ≡ unnamedZero old
 
 pub record SamePolicy (old new : List ℕ) : Type 0 where
@@ -114,12 +129,13 @@ pub record SameWorking (old new : List ℕ) : Type 0 where
 
 module _ {old new : List ℕ} (full : length old ≡ 512) (long : length new ≡ 512) where
   pub same-frame : Alike 0 4 new old → Alike 432 492 new old → SameFrame old new
-  unfolding layout unitNumber unnamedZero
+  unfolding layout unitNumber keeperField unnamedZero
   same-frame p q =
       record {
         same-layout = alike-number p 2 0 (omega arith) (omega arith);
         same-number = alike-number p 2 2 (omega arith) (omega arith);
-        same-unnamed = alike-zeros q 60 432 (omega arith) (omega arith);
+        same-field = alike-number q 2 432 (omega arith) (omega arith);
+        same-unnamed = alike-zeros q 58 434 (omega arith) (omega arith);
       }
 
   pub same-policy : Alike 4 6 new old → Alike 8 12 new old → SamePolicy old new
@@ -160,12 +176,12 @@ module _ {old new : List ℕ} (full : length old ≡ 512) (long : length new ≡
         same-zero = λ v h. alike-zeros q 20 (112 + 20 * v) (omega arith) (omega arith);
       }
 
--- soundness is kept: what the frame leaves open is shown of the new record
+-- a used record stays used by its own bytes: what the frame leaves open is shown of the new record
 module _ {u : ℕ} {old new : List ℕ} (s : Shape u old) where
   pub used-kept : checked new ≡ true → SameFrame old new → method new ≤ 1 → step new ≤ 1
       → either (eqb (step new) 1) (nextPairZero new) ≡ true
-      → ((v : ℕ) → v < 16 → ValidOrZero new v) → unitStateOf u new ≡ Used
-  used-kept sealed f hm hs hp hk =
+      → ((v : ℕ) → v < 16 → ValidOrZero new v) → keeperShape new ≡ true → unitStateOf u new ≡ Used
+  used-kept sealed f hm hs hp hk hf =
       used-of u new sealed
       (record {
         first = f .same-layout ∙ s .first;
@@ -174,6 +190,7 @@ module _ {u : ℕ} {old new : List ℕ} (s : Shape u old) where
         pending = hs;
         pair = hp;
         keys = hk;
+        keeper = hf;
         unnamed = f .same-unnamed ∙ s .unnamed;
       })
 
@@ -189,3 +206,12 @@ module _ {u : ℕ} {old new : List ℕ} (s : Shape u old) where
 
   pub keys-kept : SameWorking old new → (v : ℕ) → v < 16 → ValidOrZero new v
   keys-kept p v h = rw (p .same-valid v, p .same-zero v h) (s .keys v h)
+
+-- whose keys: a unit with keys of its own stays one, and a sharer without keys stays so where mask, step and key bytes do
+pub own-keeper : {old new : List ℕ} → SameFrame old new → keeperField old ≡ 0 → keeperShape new ≡ true
+unfolding keeperShape
+own-keeper {old} {new} f z = rw (eq-eqb (keeperField new) 0 (f .same-field ∙ z))
+
+pub keeper-kept : {u : ℕ} {old new : List ℕ} → Shape u old → SameFrame old new → noKeys new ≡ noKeys old → keeperShape new ≡ true
+unfolding keeperShape
+keeper-kept s f e = rw (f .same-field, e) (s .keeper)

@@ -18,10 +18,10 @@ codes (p ∷ ps) = bytesOf 2 p ++ codes ps
 abbrev pub framed : ℕ → List ℕ → List ℕ
 framed p body = bytesOf 2 p ++ (bytesOf 2 (length body) ++ body)
 
--- the Capabilities page
+-- the Capabilities page; byte 4 is D0h since units may share keys (02, K4)
 unfoldable pub capabilities : List ℕ
 capabilities =
-    0x00 ∷ 0x10 ∷ 0x00 ∷ 0x10 ∷ 0x50 ∷ 0x00 ∷ 0x00 ∷ 0x02 ∷ 0x00 ∷ 0x00 ∷
+    0x00 ∷ 0x10 ∷ 0x00 ∷ 0x10 ∷ 0xD0 ∷ 0x00 ∷ 0x00 ∷ 0x02 ∷ 0x00 ∷ 0x00 ∷
     0x00 ∷ 0x01 ∷ 0x00 ∷ 0x01 ∷ 0x00 ∷ 0x01 ∷ 0x00 ∷ 0x01 ∷ 0x00 ∷ 0x0E ∷ []
 
 -- 0000h lists the pages that IN has, 0001h those that OUT has

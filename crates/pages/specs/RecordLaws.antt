@@ -1,22 +1,23 @@
 -- Laws of records of 512 bytes: two that have the same bytes in a run of places, and what two patches and the check leave.
 use mathlib.Core.Path.{_≡_, refl, sym, ap₂, _∙_}
 use mathlib.Core.Logic.{_⊎_, inl, inr, ⊎-elim}
-use mathlib.Core.Bool.{Bool, true}
+use mathlib.Core.Bool.{Bool, true, false}
 use mathlib.Core.List.{List}
-use Prim.Native.Nat.{ℕ, zero, suc, _+_, _≤_, _<_}
+use Prim.Native.Nat.{ℕ, zero, suc, _+_, _-_, _≤_, _<_}
 use native.Mathlib.Omega.{arith}
 use native.Mathlib.Nat.{add-zero}
-use lib.Dec.{eqb}
+use lib.Dec.{eqb, ltb}
 use lib.ListN.{length, getD, take, drop, length-take, length-drop}
 use lib.Seq.{ext-getD, getD-take, getD-drop}
+use borrow.Author.Tests.{ltb-true, ltb-false}
 use Rattle.choice.specs.Choice.{both}
 use Rattle.wire.specs.Bytes.{part, number, zeros, patch}
-use Rattle.wire.specs.PatchLaws.{length-patch, at-outside, part-inside}
+use Rattle.wire.specs.PatchLaws.{length-patch, at-outside, at-inside, part-inside}
 use Rattle.wire.specs.NumberLaws.{number-ext, number-inside}
 use Rattle.sha1.specs.Sha1.{sha1}
 use Rattle.sha1.specs.Sha1Laws.{sha1-length}
 use Rattle.seal.specs.Seal.{checked, seal}
-use Rattle.seal.specs.SealLaws.{seal-length, seal-checked, seal-number, seal-part}
+use Rattle.seal.specs.SealLaws.{seal-length, seal-checked, seal-number, seal-part, checked-same}
 
 -- ---- alike: the bytes from c up to d are the same
 
@@ -54,9 +55,38 @@ pub patch-alike : (xs : List ℕ) (a : ℕ) (ys : List ℕ) → a + length ys �
 patch-alike xs a ys fits c d apart =
     record { bytes = λ i h k. at-outside xs a ys fits i (⊎-elim (λ g. inl (omega arith)) (λ g. inr (omega arith)) apart) }
 
-seal-alike : (l : List ℕ) → length l ≡ 512 → (c d : ℕ) → d ≤ 492 → Alike c d (seal l) l
+pub seal-alike : (l : List ℕ) → length l ≡ 512 → (c d : ℕ) → d ≤ 492 → Alike c d (seal l) l
 unfolding seal
 seal-alike l full c d h = patch-alike l 492 (sha1 (take 492 l)) (rw (sha1-length (take 492 l), full) (omega arith)) c d (inl h)
+
+-- the same patch on both, and the check of records that are alike below it
+pub alike-patch : {c d : ℕ} {l m : List ℕ} → length l ≡ 512 → length m ≡ 512 → Alike c d l m → (a : ℕ) (ys : List ℕ) → a + length ys ≤ 512
+    → Alike c d (patch l a ys) (patch m a ys)
+alike-patch {c} {d} {l} {m} el em same a ys fits = record { bytes = λ i h k. by-place i h k (ltb i a) (ltb i (a + length ys)) refl refl }
+  where
+    fl : a + length ys ≤ length l
+    fl = rw el fits
+
+    fm : a + length ys ≤ length m
+    fm = rw em fits
+
+    outside : (i : ℕ) → c ≤ i → i < d → (i < a) ⊎ (a + length ys ≤ i) → getD (patch l a ys) i 0 ≡ getD (patch m a ys) i 0
+    outside i h k apart = at-outside l a ys fl i apart ∙ same .bytes i h k ∙ sym (at-outside m a ys fm i apart)
+
+    by-place : (i : ℕ) → c ≤ i → i < d → (p q : Bool) → ltb i a ≡ p → ltb i (a + length ys) ≡ q
+        → getD (patch l a ys) i 0 ≡ getD (patch m a ys) i 0
+    by-place i h k true q ep eq = outside i h k (inl (ltb-true i a ep))
+    by-place i h k false false ep eq = outside i h k (inr (ltb-false i (a + length ys) eq))
+    by-place i h k false true ep eq =
+        let g : a ≤ i = ltb-false i a ep in
+        let j : i < a + length ys = ltb-true i (a + length ys) eq in
+        let e : a + (i - a) ≡ i = omega arith in
+        rw e at (at-inside l a ys fl (i - a) (omega arith)) ∙ sym (rw e at (at-inside m a ys fm (i - a) (omega arith)))
+
+pub seal-same : (l m : List ℕ) → length l ≡ 512 → length m ≡ 512 → Alike 0 492 l m → seal l ≡ seal m
+seal-same l m el em same =
+    checked-same (seal l) (seal m) (seal-length l el) (seal-length m em) (seal-checked l el) (seal-checked m em)
+    (seal-part l el 0 492 (omega arith) ∙ alike-part same el em 0 492 (omega arith) (omega arith) ∙ sym (seal-part m em 0 492 (omega arith)))
 
 -- ---- two patches, one behind the other, and the check: n bytes from a on, and k from b on
 

@@ -38,6 +38,7 @@ fn build_text(
     unit: UnitNo,
     method: u32,
     tag: u32,
+    keeper: u32,
     space: &[u8],
     out: &mut [u8],
 ) -> usize
@@ -47,7 +48,16 @@ fn build_text(
     wire::put(&mut identifier, 0, &space[0..16]);
     let auth_key = wire::bytes20(space, 16);
     let gen_key = wire::bytes20(space, 36);
-    let answer = calls::build(units, unit, method, tag, &identifier, &auth_key, &gen_key);
+    let answer = calls::build(
+        units,
+        unit,
+        method,
+        tag,
+        &identifier,
+        &auth_key,
+        &gen_key,
+        keeper,
+    );
     listing::answer_text(out, answer, b"")
 }
 
@@ -94,7 +104,12 @@ fn obey(
 {
     match call {
         Call::Blank => 0,
-        Call::Build { unit, method, tag } => build_text(units, unit, method, tag, space, out),
+        Call::Build {
+            unit,
+            method,
+            tag,
+            keeper,
+        } => build_text(units, unit, method, tag, keeper, space, out),
         Call::Open {
             unit,
             clock,

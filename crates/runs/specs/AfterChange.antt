@@ -56,7 +56,7 @@ change-clears : (page v : ℕ) (d : List ℕ) (k : KeySet) → page ≡ changeMa
 unfolding keyCommand
 change-clears page v d k e = rw e
 
-changed-none : (units : List ℕ) (u v : ℕ) (k : KeySet) (xs : List Done) (y : Done) (ys : List Done) → isKeyCommand units u y ≡ true
+pub changed-none : (units : List ℕ) (u v : ℕ) (k : KeySet) (xs : List Done) (y : Done) (ys : List Done) → isKeyCommand units u y ≡ true
     → pageOf (y .what .command) ≡ changeMaster → NoneSets units u v ys → history units u k (xs ++ (y ∷ ys)) .working v ≡ none
 changed-none units u v k xs y ys good page s =
     ap (λ (z : KeySet). z .working v) (history-append units u xs (y ∷ ys) k)

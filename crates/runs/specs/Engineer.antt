@@ -40,11 +40,11 @@ module _ (t : Tables) (es : List Event) (m : Tables) (sound : SoundTables t) (ra
     (n : Tables)
     (meets : Meets m k a r n) (command : isCommand k ≡ true) (formed : isMalformed a ≡ false) (x : Asked)
     (about : commandOf (ledgerOf (starts (t .slots)) es) k ≡ some x) where
-  abbrev Refusing : Type 0
+  abbrev pub Refusing : Type 0
   Refusing = openReason (seen (m .units) (x .unit)) (x .command) (x .token) (clockOf k) ≡ 0 → ⊥
 
   -- refused, and neither GOOD nor parked: what is GOOD or waits is refused for nothing
-  refused-unless : Refusing → isRefused a ≡ true
+  pub refused-unless : Refusing → isRefused a ≡ true
   refused-unless f = by-final (isFinal a) refl
     where
       by-final : (b : Bool) → isFinal a ≡ b → isRefused a ≡ true

@@ -73,7 +73,7 @@ module _ (a : Answer) (m : Lent) (final : isFinal a ≡ true) where
 
 -- ---- GOOD: nothing refuses
 
-whole-good : (units : List ℕ) (k : Asked) (d : List ℕ) (clock : ℕ) → isGood (whole units k d clock .answer) ≡ true
+pub whole-good : (units : List ℕ) (k : Asked) (d : List ℕ) (clock : ℕ) → isGood (whole units k d clock .answer) ≡ true
     → wholeReason units k d clock ≡ 0
 unfolding refusal
 whole-good units k d clock =

@@ -6,6 +6,7 @@ use Prim.Native.Nat.{ℕ, zero, suc, _<_, _^_}
 use lib.ListN.{length}
 use Rattle.seal.specs.Seal.{blankRecord}
 use Rattle.model.specs.declared.Answer.the-variants.{Good}
+use Rattle.units.specs.Unit.{keeperOf}
 use Rattle.calls.specs.Outcome.{TableOutcome, leaves}
 use Rattle.calls.specs.Build.{buildOut}
 
@@ -17,7 +18,8 @@ blanks (suc n) = blankRecord ++ blanks n
 abbrev pub fresh : List ℕ
 fresh = blanks 8
 
--- what a build is asked for; the lengths are what the call's types say: a tag of four bytes, an identifier of 16 and keys of 20
+-- what a build is asked for; the lengths are what the call's types say: a tag of four bytes, an identifier of 16 and keys of 20. The keeper is
+-- the field's value: zero for own keys, or one more than a keeper's number
 pub record Asking : Type 0 where
   pub unit : ℕ
   pub method : ℕ
@@ -25,15 +27,20 @@ pub record Asking : Type 0 where
   pub identifier : List ℕ
   pub auth : List ℕ
   pub generation : List ℕ
+  pub keeper : ℕ
   pub tag-fits : tag < 2 ^ 32
   pub identifier-16 : length identifier ≡ 16
   pub auth-20 : length auth ≡ 20
   pub generation-20 : length generation ≡ 20
 
 abbrev pub buildAs : List ℕ → Asking → TableOutcome
-buildAs us b = buildOut us (b .unit) (b .method) (b .tag) (b .identifier) (b .auth) (b .generation)
+buildAs us b = buildOut us (b .unit) (b .method) (b .tag) (b .identifier) (b .auth) (b .generation) (b .keeper)
 
--- builds, each answered A0, from the unit table us to the unit table ns
+-- the build makes no sharer of a unit that another record names as its keeper
+abbrev pub LosesNone : List ℕ → Asking → Type 0
+LosesNone us b = (b .keeper ≡ 0 → ⊥) → (v : ℕ) → v < 8 → (b .unit ≡ v → ⊥) → keeperOf us v ≡ b .unit → ⊥
+
+-- builds, each answered A0, none of which loses a sharer its keeper, from the unit table us to the unit table ns
 abbrev pub Built : List ℕ → List Asking → List ℕ → Type 0
 Built us [] ns = us ≡ ns
-Built us (b ∷ bs) ns = (next : List ℕ) × (leaves (Good 0) next ≡ buildAs us b) × Built next bs ns
+Built us (b ∷ bs) ns = (next : List ℕ) × (leaves (Good 0) next ≡ buildAs us b) × LosesNone us b × Built next bs ns

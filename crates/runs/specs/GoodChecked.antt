@@ -24,7 +24,7 @@ use Rattle.judge.specs.CheckedLaws.{guarded-key, guarded-checked}
 use Rattle.calls.specs.Outcome.{Tables}
 use Rattle.calls.specs.Whole.{Asked, Whole, wholeReason, whole}
 use Rattle.calls.specs.WholeLaws.{close-none}
-use Rattle.runs.specs.WholeLaws.{whole-cases}
+use Rattle.runs.specs.FinalLaws.{whole-good}
 use Rattle.runs.specs.Run.{Call, opens, closes, aborts, resets, Event, Meets, Ran, SoundTables, isCommand}
 use Rattle.runs.specs.Ledger.{Ledger, ledgerOf, starts, commandOf, sentBy, clockOf, dones, finalIn}
 use Rattle.runs.specs.StepLaws.{Stepped, call-step}
@@ -34,7 +34,7 @@ use Rattle.runs.specs.HistoryLaws.{says-start, says-run}
 
 -- ---- the key of a record is the key of its history
 
-version-small : (d : List ℕ) → keyVersion d < 16
+pub version-small : (d : List ℕ) → keyVersion d < 16
 unfolding keyVersion
 version-small d = omega arith
 
@@ -51,16 +51,9 @@ key-said keys k says false change v h e = says .working v h ∙ found-some (isVa
 
 -- ---- a whole command that is GOOD was refused for nothing
 
-good-none : (units : List ℕ) (k : Asked) (d : List ℕ) (clock : ℕ) → isGood (whole units k d clock .answer) ≡ true
-    → wholeReason units k d clock ≡ 0
-unfolding refusal
-good-none units k d clock =
-    whole-cases units k d clock (λ (w : Whole). isGood (w .answer) ≡ true → wholeReason units k d clock ≡ 0)
-    (λ n e. let z : _≡_ {A = ℕ} 0 1 = cc in absurd (omega arith)) (λ z t e. z) (λ z f r e. z) (λ z f r e. z)
-
 pub good-passes : (units : List ℕ) (k : Asked) (d : List ℕ) (clock : ℕ) → isGood (whole units k d clock .answer) ≡ true
     → openReason (seen units (k .unit)) (k .command) (k .token) clock ≡ 0
-good-passes units k d clock good = close-none (seen units (k .unit)) (k .command) (k .token) d clock (good-none units k d clock good) .0
+good-passes units k d clock good = close-none (seen units (k .unit)) (k .command) (k .token) d clock (whole-good units k d clock good) .0
 
 -- a command that nothing refuses, against the table just before it, with a key set that says what the record of the unit's keys says
 passed-checked : (units : List ℕ) (k : Asked) (clock : ℕ) (keys : KeySet) → Says keys (keySetOf units (k .unit))
@@ -111,7 +104,15 @@ step-answers t ledger k a r n s e f = by-command (commandOf ledger k) refl
         absurd (omega arith)
     by-command (some x) q = record { what = x; about = q; as-whole = (rw (f, q) at (s .singly)) .0 }
 
--- ---- after any run from sound tables, of any open or close that is answered GOOD
+-- ---- after any run from sound tables the record of each unit's key set says what the history of that key set says
+
+pub history-said : (t : Tables) (es : List Event) (m : Tables) → SoundTables t → Ran t es m → (u : ℕ)
+    → Says (keysBefore t es u) (keySetOf (m .units) u)
+history-said t es m sound ran u =
+    says-run (t .units) (dones (starts (t .slots)) es) (t .units) (m .units) (sound .units-length) (λ v. refl) u (startKeys (keySetOf (t .units) u))
+    (says-start (keySetOf (t .units) u)) (sequence t es m sound ran .singly)
+
+-- ---- and of any open or close that is answered GOOD then
 
 module _ (t : Tables) (es : List Event) (m : Tables) (sound : SoundTables t) (ran : Ran t es m) (k : Call) (a : Answer) (r : List ℕ)
     (n : Tables)
@@ -122,17 +123,12 @@ module _ (t : Tables) (es : List Event) (m : Tables) (sound : SoundTables t) (ra
   pub final-answers : isCommand k ≡ true → isFinal a ≡ true → FinalAnswer m (ledgerOf (starts (t .slots)) es) k a
   final-answers e f = step-answers m ledger k a r n (call-step m ledger (run-fits t es m sound ran) k a r n meets) e f
 
-  says-before : (u : ℕ) → Says (keysBefore t es u) (keySetOf (m .units) u)
-  says-before u =
-      says-run (t .units) (dones (starts (t .slots)) es) (t .units) (m .units) (sound .units-length) u (startKeys (keySetOf (t .units) u))
-      (says-start (keySetOf (t .units) u)) (sequence t es m sound ran .singly)
-
   -- wherever CAPKEY rules, a guarded command that nothing refuses passed every check
   pub ruled-checked : (x : Asked) → openReason (seen (m .units) (x .unit)) (x .command) (x .token) (clockOf k) ≡ 0
       → rulesFor (unitAt (x .unit) (m .units)) (x .command) ≡ true → isOpenRow (needFor (x .command)) ≡ false
       → CheckedBy (unitAt (x .unit) (m .units)) (keysBefore t es (x .unit)) x (clockOf k)
   ruled-checked x passes rules guarded =
-      passed-checked (m .units) x (clockOf k) (keysBefore t es (x .unit)) (says-before (x .unit)) passes rules guarded
+      passed-checked (m .units) x (clockOf k) (keysBefore t es (x .unit)) (history-said t es m sound ran (x .unit)) passes rules guarded
 
   -- the command of an open or close that is answered GOOD is refused for nothing
   good-none-refuses : (e : isCommand k ≡ true) (good : isGood a ≡ true)

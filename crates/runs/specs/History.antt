@@ -1,5 +1,5 @@
 -- The key history of a key set: the keys that the starting keys and the GOOD key commands since say are valid, by version. It has no
--- mask, no place and no byte of a later record.
+-- mask, no place and no byte of a later record; who shares which set is read from the starting table.
 use mathlib.Core.Path.{_≡_}
 use mathlib.Core.Bool.{Bool, true, false}
 use mathlib.Core.Option.{Option, none, some}
@@ -94,8 +94,8 @@ keyCommand page d k =
     (pick (eqb page changeMaster) (masterChanged k)
     k))
 
--- is it a GOOD SECURITY PROTOCOL OUT at a unit with the same key set as unit u? By the starting unit table, since no call changes who
--- keeps keys
+-- is it a GOOD SECURITY PROTOCOL OUT at a unit with the same key set as unit u? By the starting unit table, since no open, close, abort or
+-- reset changes who keeps keys (Shared: `field-fixed`)
 abbrev pub isKeyCommand : List ℕ → ℕ → Done → Bool
 isKeyCommand units u x =
     both (eqb (keeperOf units (x .what .unit)) (keeperOf units u)) (both (eqb (codeOf (x .what .command)) protocolOut) (isA 0 (x .answer)))

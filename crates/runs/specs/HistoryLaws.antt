@@ -9,15 +9,16 @@ use lib.Dec.{eqb}
 use lib.ListN.{length}
 use borrow.Author.Tests.{eqb-true, eqb-false, eq-eqb}
 use Rattle.choice.specs.Choice.{both, pick}
+use Rattle.choice.specs.ChoiceLaws.{both-right}
 use Rattle.wire.specs.Bytes.{patch}
-use Rattle.wire.specs.PatchLaws.{record-here}
+use Rattle.wire.specs.PatchLaws.{record-here, record-other}
 use Rattle.hmac.specs.Hmac.{hmac, bySha1}
 use Rattle.model.specs.Protocol.{protocolOut, setAttributes, seedExchange, setKey, changeMaster}
 use Rattle.model.specs.Answers.{isA}
 use Rattle.model.specs.Refusal.{refusal}
 use Rattle.model.specs.declared.Answer.the-variants.{Good}
 use Rattle.units.specs.Unit.{unitAt, keeperOf, keySetOf, step, isValid, workingKey}
-use Rattle.units.specs.UnitLaws.{unit-length}
+use Rattle.units.specs.UnitLaws.{unit-length, keeper-small}
 use Rattle.judge.specs.Command.{codeOf, pageOf}
 use Rattle.judge.specs.Seen.{seen}
 use Rattle.pages.specs.Out.{newMethod, newTag, newVersion, seed, agreed, wrongList}
@@ -26,7 +27,7 @@ use Rattle.pages.specs.Effects.{attributesSet, workingKeySet, lastFlipped, next
 use Rattle.pages.specs.FieldLaws.{SameWorking}
 use Rattle.pages.specs.EffectLaws.{attributes-length, attributes-master, attributes-next, attributes-working, key-master, key-next, key-valid, key-working, key-other-valid, key-other-working, exchanged-master, exchanged-working, exchanged-step, exchanged-next-auth, exchanged-next-generation, changed-identifier, changed-auth, changed-generation, changed-valid, changed-step, changed-next-auth, changed-next-generation, new-length}
 use Rattle.calls.specs.Whole.{attributes, keySet, madeBy, laid, Whole, whole}
-use Rattle.runs.specs.WholeLaws.{whole-cases, whole-length, Obeys, obeys, laid-others}
+use Rattle.runs.specs.WholeLaws.{whole-cases, whole-length, whole-keeper, Obeys, obeys, laid-keeper}
 use Rattle.runs.specs.Ledger.{Done, Singly}
 use Rattle.runs.specs.History.{KeySet, Says, startKeys, versionSet, seedExchanged, masterChanged, keyCommand, isKeyCommand, history}
 
@@ -123,37 +124,80 @@ module _ (k : KeySet) (rec : List ℕ) (says : Says k rec) (full : length rec �
       by-page false false true e = says-changed
       by-page false false false e = says
 
-  -- Set Attributes leaves the keys alone
-  says-policy : (page : ℕ) (d : List ℕ) → page ≡ setAttributes → Says (keyCommand page d k) (attributesSet (newMethod d) (newTag d) rec)
+-- ---- an Out page that is obeyed at unit w: what it says of the key set of a unit u, of the same set or another
+
+module _ (units : List ℕ) (w page : ℕ) (d : List ℕ) (o : Obeys units w page d) (u : ℕ) (k : KeySet) (says : Says k (keySetOf units u)) where
+  -- the record at a place where another is put, and where none is
+  module _ (place : ℕ) (at : place < 8) (bytes : List ℕ) (long : length bytes ≡ 512) where
+    here : unitAt place (patch units (place * 512) bytes) ≡ bytes
+    here = let full = o .full in record-here units place bytes long (omega arith)
+
+    elsewhere : (v : ℕ) → (place ≡ v → ⊥) → unitAt v (patch units (place * 512) bytes) ≡ unitAt v units
+    elsewhere v ne = let full = o .full in record-other units place bytes long (omega arith) v ne
+
+  says-kept : Says k (unitAt (keeperOf units u) units)
+  unfolding keySetOf
+  says-kept = says
+
+  -- Set Attributes leaves the keys alone, whoever keeps them
+  attributes-new : List ℕ
+  attributes-new = attributesSet (newMethod d) (newTag d) (unitAt w units)
+
+  attributes-long : length attributes-new ≡ 512
+  unfolding attributes-new
+  attributes-long = attributes-length (newMethod d) (newTag d) (unitAt w units) (unit-length w units (o .full) (o .small))
+
+  of-attributes : (b : Bool) → eqb w (keeperOf units u) ≡ b → Says k (unitAt (keeperOf units u) (patch units (w * 512) attributes-new))
+  unfolding attributes-new
+  of-attributes true e =
+      let same = eqb-true w (keeperOf units u) e in
+      let full = unit-length w units (o .full) (o .small) in
+      rw (← same, here w (o .small) attributes-new attributes-long)
+      (says-attributes k (unitAt w units) (subst (λ (p : ℕ). Says k (unitAt p units)) (sym same) says-kept) full (newMethod d) (newTag d))
+  of-attributes false e =
+      rw (elsewhere w (o .small) attributes-new attributes-long (keeperOf units u) (eqb-false w (keeperOf units u) e)) says-kept
+
+  -- a key command is told to the set of its unit, and to no other
+  at : keeperOf units w < 8
+  at = keeper-small units w (o .used) (o .small)
+
+  keys-new : List ℕ
+  keys-new = newKeys page d (unitAt (keeperOf units w) units)
+
+  keys-long : length keys-new ≡ 512
+  unfolding keys-new
+  keys-long = new-length page d (unitAt (keeperOf units w) units) (o .right) (unit-length (keeperOf units w) units (o .full) at)
+
+  of-keys : (b : Bool) → eqb (keeperOf units w) (keeperOf units u) ≡ b
+      → Says (pick b (keyCommand page d k) k) (unitAt (keeperOf units u) (patch units (keeperOf units w * 512) keys-new))
+  unfolding keys-new
+  of-keys true e =
+      let same = eqb-true (keeperOf units w) (keeperOf units u) e in
+      let full = unit-length (keeperOf units w) units (o .full) at in
+      rw (← same, here (keeperOf units w) at keys-new keys-long)
+      (says-keys k (unitAt (keeperOf units w) units) (subst (λ (p : ℕ). Says k (unitAt p units)) (sym same) says-kept) full page d (o .right))
+  of-keys false e =
+      rw (elsewhere (keeperOf units w) at keys-new keys-long (keeperOf units u) (eqb-false (keeperOf units w) (keeperOf units u) e)) says-kept
+
+  policy-leaves : page ≡ setAttributes → (b : Bool) → pick b (keyCommand page d k) k ≡ k
   unfolding keyCommand
-  says-policy page d e = rw e (says-attributes (newMethod d) (newTag d))
-
--- ---- an Out page that is obeyed, at its own unit
-
-module _ (units : List ℕ) (u page : ℕ) (d : List ℕ) (o : Obeys units u page d) (k : KeySet) (says : Says k (keySetOf units u)) where
-  here : (rec : List ℕ) → length rec ≡ 512 → unitAt u (patch units (u * 512) rec) ≡ rec
-  here rec long = let h = o .small in let full = o .full in record-here units u rec long (omega arith)
+  policy-leaves e true = rw e
+  policy-leaves e false = refl
 
   by-kind : (b : Bool) → eqb page setAttributes ≡ b
-      → Says (keyCommand page d k) (keySetOf (laid units u (pick b (attributes (attributesSet (newMethod d) (newTag d) (unitAt u units))) (keySet (newKeys page d (keySetOf units u))))) u)
-  unfolding keySetOf keeperOf
+      → Says (pick (eqb (keeperOf units w) (keeperOf units u)) (keyCommand page d k) k)
+      (unitAt (keeperOf units u) (laid units w (pick b (attributes (attributesSet (newMethod d) (newTag d) (unitAt w units))) (keySet (newKeys page d (keySetOf units w))))))
+  unfolding keySetOf attributes-new keys-new
   by-kind true e =
-      let full = unit-length u units (o .full) (o .small) in
-      rw (here (attributesSet (newMethod d) (newTag d) (unitAt u units)) (attributes-length (newMethod d) (newTag d) (unitAt u units) full))
-      (says-policy k (unitAt u units) says full page d (eqb-true page setAttributes e))
-  by-kind false e =
-      let full = unit-length u units (o .full) (o .small) in
-      rw (here (newKeys page d (unitAt u units)) (new-length page d (unitAt u units) (o .right) full)) (says-keys k (unitAt u units) says full page d (o .right))
+      rw (policy-leaves (eqb-true page setAttributes e) (eqb (keeperOf units w) (keeperOf units u))) (of-attributes (eqb w (keeperOf units u)) refl)
+  by-kind false e = of-keys (eqb (keeperOf units w) (keeperOf units u)) refl
 
-  pub says-made : Says (keyCommand page d k) (keySetOf (laid units u (madeBy (seen units u) page d)) u)
-  unfolding madeBy
-  says-made = by-kind (eqb page setAttributes) refl
+  pub says-made : Says (pick (eqb (keeperOf units w) (keeperOf units u)) (keyCommand page d k) k)
+      (keySetOf (laid units w (madeBy (seen units w) page d)) u)
+  unfolding madeBy keySetOf
+  says-made = rw (laid-keeper units w page d o u) (by-kind (eqb page setAttributes) refl)
 
 -- ---- a whole command, at any unit
-
-keys-kept : (us new : List ℕ) (u : ℕ) (k : KeySet) → unitAt u new ≡ unitAt u us → Says k (keySetOf us u) → Says k (keySetOf new u)
-unfolding keySetOf keeperOf
-keys-kept us new u k e says = rw e says
 
 never : (a b : Bool) → both a (both b false) ≡ false
 never true true = refl
@@ -164,7 +208,12 @@ off : (b : Bool) → both b false ≡ false
 off true = refl
 off false = refl
 
-module _ (start us : List ℕ) (full : length us ≡ 4096) (u : ℕ) (k : KeySet) (says : Says k (keySetOf us u)) (x : Done) where
+-- who keeps keys is as it was in the starting table
+abbrev pub KeepersOf : List ℕ → List ℕ → Type 0
+KeepersOf start us = (v : ℕ) → keeperOf us v ≡ keeperOf start v
+
+module _ (start us : List ℕ) (full : length us ≡ 4096) (fixed : KeepersOf start us) (u : ℕ) (k : KeySet) (says : Says k (keySetOf us u))
+    (x : Done) where
   Told : Whole → Type 0
   Told w =
       w .answer ≡ x .answer → Says (pick (isKeyCommand start u x) (keyCommand (pageOf (x .what .command)) (x .sent) k) k) (keySetOf (w .units) u)
@@ -173,21 +222,16 @@ module _ (start us : List ℕ) (full : length us ≡ 4096) (u : ℕ) (k : KeySet
       → Good 0 ≡ x .answer
       → Says (pick (isKeyCommand start u x) (keyCommand (pageOf (x .what .command)) (x .sent) k) k)
       (keySetOf (laid us (x .what .unit) (madeBy (seen us (x .what .unit)) (pageOf (x .what .command)) (x .sent))) u)
-  unfolding keeperOf
-  obeyed-says o t e = by-unit (eqb (x .what .unit) u) refl
+  obeyed-says o t e = rw in-set (says-made us (x .what .unit) (pageOf (x .what .command)) (x .sent) o u k says)
     where
-      new : List ℕ
-      new = laid us (x .what .unit) (madeBy (seen us (x .what .unit)) (pageOf (x .what .command)) (x .sent))
+      good : both (eqb (codeOf (x .what .command)) protocolOut) (isA 0 (x .answer)) ≡ true
+      good = rw (t, ← e)
 
-      by-unit : (b : Bool) → eqb (x .what .unit) u ≡ b
-          → Says (pick (both b (both (eqb (codeOf (x .what .command)) protocolOut) (isA 0 (x .answer)))) (keyCommand (pageOf (x .what .command)) (x .sent) k) k) (keySetOf new u)
-      by-unit true p =
-          let same = eqb-true (x .what .unit) u p in
-          let says′ : Says k (keySetOf us (x .what .unit)) = subst (λ (v : ℕ). Says k (keySetOf us v)) (sym same) says in
-          rw (t, ← e) (subst (λ (v : ℕ). Says (keyCommand (pageOf (x .what .command)) (x .sent) k) (keySetOf new v)) same (says-made us (x .what .unit) (pageOf (x .what .command)) (x .sent) o k says′))
-      by-unit false p =
-          let ne = eqb-false (x .what .unit) u p in
-          keys-kept us new u k (laid-others us (x .what .unit) (pageOf (x .what .command)) (x .sent) o u ne ne) says
+      -- it is a key command of u's set just where its unit has the same keeper
+      in-set : isKeyCommand start u x ≡ eqb (keeperOf us (x .what .unit)) (keeperOf us u)
+      in-set =
+          ap₂ (λ (a b : ℕ). both (eqb a b) (both (eqb (codeOf (x .what .command)) protocolOut) (isA 0 (x .answer)))) (sym (fixed (x .what .unit))) (sym (fixed u))
+          ∙ ap (both (eqb (keeperOf us (x .what .unit)) (keeperOf us u))) good ∙ both-right (eqb (keeperOf us (x .what .unit)) (keeperOf us u))
 
   says-whole : whole us (x .what) (x .sent) (x .clock) .answer ≡ x .answer
       → Says (pick (isKeyCommand start u x) (keyCommand (pageOf (x .what .command)) (x .sent) k) k) (keySetOf (whole us (x .what) (x .sent) (x .clock) .units) u)
@@ -205,10 +249,12 @@ module _ (start us : List ℕ) (full : length us ≡ 4096) (u : ℕ) (k : KeySet
 
 -- ---- any run of whole commands: the records say what the starting keys and the GOOD key commands since say
 
-pub says-run : (start : List ℕ) (xs : List Done) (us ns : List ℕ) → length us ≡ 4096 → (u : ℕ) (k : KeySet) → Says k (keySetOf us u)
+pub says-run : (start : List ℕ) (xs : List Done) (us ns : List ℕ) → length us ≡ 4096 → KeepersOf start us → (u : ℕ) (k : KeySet)
+    → Says k (keySetOf us u)
     → Singly us xs ns
     → Says (history start u k xs) (keySetOf ns u)
-says-run start [] us ns full u k says p = subst (λ (z : List ℕ). Says k (keySetOf z u)) p says
-says-run start (x ∷ xs) us ns full u k says p =
-    says-run start xs (whole us (x .what) (x .sent) (x .clock) .units) ns (whole-length us (x .what) (x .sent) (x .clock) full) u
-    (pick (isKeyCommand start u x) (keyCommand (pageOf (x .what .command)) (x .sent) k) k) (says-whole start us full u k says x (p .0)) (p .2)
+says-run start [] us ns full fixed u k says p = subst (λ (z : List ℕ). Says k (keySetOf z u)) p says
+says-run start (x ∷ xs) us ns full fixed u k says p =
+    says-run start xs (whole us (x .what) (x .sent) (x .clock) .units) ns (whole-length us (x .what) (x .sent) (x .clock) full)
+    (λ v. whole-keeper us (x .what) (x .sent) (x .clock) full v ∙ fixed v) u
+    (pick (isKeyCommand start u x) (keyCommand (pageOf (x .what .command)) (x .sent) k) k) (says-whole start us full fixed u k says x (p .0)) (p .2)

@@ -29,7 +29,7 @@ use Rattle.judge.specs.Seen.{seen}
 use Rattle.judge.specs.JudgementLaws.{open-passed}
 use Rattle.calls.specs.Outcome.{Lent, lent, tables, Outcome, gives, withSlots, onSlots, rightlyLent, TableOutcome, leaves}
 use Rattle.calls.specs.OutcomeLaws.{one-outcome, lengths-are, one-table}
-use Rattle.calls.specs.Build.{buildOut}
+use Rattle.calls.specs.Build.{rightKeeper, buildOut}
 use Rattle.calls.specs.Slots.{holds, abortOut, resetOut}
 use Rattle.calls.specs.Whole.{Asked, Whole, whole}
 use Rattle.calls.specs.WholeLaws.{patch-none}
@@ -49,7 +49,7 @@ pub record LeftByOpen (l m : Lent) (a : Answer) : Type 0 where
   pub reply : drop (countIn a) (m .reply) ≡ drop (countIn a) (l .reply)
 
 -- a close of slot s: the reply is kept, and A0 says count 0; A0, A2 and A3 free the slot, and no other slot changes; the unit table is kept
--- but under A0, which may make the record of the slot's unit anew, or that of its keeper
+-- but under A0, which may make the record of the slot's unit anew, or that of its keeper; one of the two, and no more (Local: `stored-once`)
 pub record LeftByClose (l m : Lent) (s : ℕ) (a : Answer) : Type 0 where
   pub reply : m .reply ≡ l .reply
   pub count : countIn a ≡ 0
@@ -193,13 +193,13 @@ good-no-refusal table x a y e not-0 =
     let z : _≡_ {A = ℕ} 0 1 = cc in
     absurd (omega arith)
 
-pub build-keeps : (units : List ℕ) (u m t : ℕ) (id auth gen : List ℕ) (a : Answer) (x : List ℕ)
-    → leaves a x ≡ buildOut units u m t id auth gen
+pub build-keeps : (units : List ℕ) (u m t : ℕ) (id auth gen : List ℕ) (k : ℕ) (a : Answer) (x : List ℕ)
+    → leaves a x ≡ buildOut units u m t id auth gen k
     → isA 0 a ≡ false → x ≡ units
 unfolding buildOut
-build-keeps units u m t id auth gen =
+build-keeps units u m t id auth gen k =
     pick-cases (KeepsTable units) (eqb (length units) 4096) _ _
-    (λ f. pick-cases (KeepsTable units) (both (leb u 7) (leb m 1)) _ _ (λ g. good-no-refusal units _) (λ g. keeps units H5)) (λ f. keeps units H1)
+    (λ f. pick-cases (KeepsTable units) (both (leb u 7) (both (leb m 1) (rightKeeper units u k))) _ _ (λ g. good-no-refusal units _) (λ g. keeps units H5)) (λ f. keeps units H1)
 
 pub abort-keeps : (slots : List ℕ) (s : ℕ) (a : Answer) (x : List ℕ) → leaves a x ≡ abortOut slots s → isA 0 a ≡ false → x ≡ slots
 unfolding abortOut

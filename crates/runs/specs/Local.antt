@@ -1,5 +1,5 @@
 -- A whole command is local, then stored: its answer, the bytes that it writes and the record that it makes anew are a function of what it
--- sees of the unit table, and storing is one patch of the table, which changes no byte of another unit's record (WholeLaws:
+-- sees of the unit table, and storing is one patch of the table, which changes no byte of a record but the unit's or its keeper's (WholeLaws:
 -- `whole-others`).
 use mathlib.Core.Path.{_≡_, refl, sym, ap}
 use mathlib.Core.Logic.{_⊎_, inl, inr}
@@ -10,7 +10,8 @@ use lib.Dec.{eqb}
 use lib.ListN.{length}
 use borrow.Author.Tests.{eqb-true, eqb-false}
 use Rattle.wire.specs.Bytes.{patch}
-use Rattle.units.specs.Unit.{unitAt, unitState, keeperOf, keySetOf}
+use Rattle.units.specs.Unit.{unitAt, keeperField, unitState, keeperOf, keySetOf}
+use Rattle.units.specs.UnitLaws.{same-keeper, same-keeps}
 use Rattle.judge.specs.Command.{pageOf}
 use Rattle.judge.specs.Seen.{Seen, seen}
 use Rattle.calls.specs.Whole.{Asked, closeReason, Local, madeBy, judged, laid, Whole, wholeReason, whole}
@@ -32,10 +33,13 @@ module _ (us vs : List ℕ) (k : Asked) (d : List ℕ) (clock : ℕ) (same : see
   unfolding whole
   local-written = ap (λ (x : Local). x .written) local-judged
 
--- today a command sees no more than its unit's record
-pub own-seen : (us vs : List ℕ) (u : ℕ) → unitAt u us ≡ unitAt u vs → seen us u ≡ seen vs u
-unfolding unitState keySetOf keeperOf
-own-seen us vs u same = rw same
+-- a command sees no more than its unit's record and its keeper's
+pub own-seen : (us vs : List ℕ) (u : ℕ) → unitAt u us ≡ unitAt u vs → unitAt (keeperOf us u) us ≡ unitAt (keeperOf us u) vs
+    → seen us u ≡ seen vs u
+unfolding unitState keySetOf
+own-seen us vs u own keeper =
+    let k : keeperOf us u ≡ keeperOf vs u = same-keeper us vs u (ap keeperField own) in
+    rw (← k, same-keeps us vs (keeperOf us u) keeper, own, keeper)
 
 -- ---- stored
 
@@ -67,3 +71,13 @@ pub stored-once : (us : List ℕ) (k : Asked) (d : List ℕ) (clock : ℕ) → l
 stored-once us k d clock full =
     whole-cases us k d clock (λ (w : Whole). (w .units ≡ us) ⊎ StoredAt us (k .unit) (w .units)) (λ n. inl refl)
     (λ z t. inr (stored-at us (k .unit) (pageOf (k .command)) d (obeys us k d clock full z t))) (λ z f r. inl refl) (λ z f r. inl refl)
+
+-- ---- so a command reads no record but its unit's and its keeper's: where those two are the same, so are its keeper, its answer, the bytes
+-- that it writes and the record that it makes anew
+
+pub reads-two : (us vs : List ℕ) (k : Asked) (d : List ℕ) (clock : ℕ) → unitAt (k .unit) us ≡ unitAt (k .unit) vs
+    → unitAt (keeperOf us (k .unit)) us ≡ unitAt (keeperOf us (k .unit)) vs
+    → (keeperOf us (k .unit) ≡ keeperOf vs (k .unit))
+    × (judged (seen us (k .unit)) (k .command) d (wholeReason us k d clock) ≡ judged (seen vs (k .unit)) (k .command) d (wholeReason vs k d clock))
+reads-two us vs k d clock own keeper =
+    (same-keeper us vs (k .unit) (ap keeperField own), local-judged us vs k d clock (own-seen us vs (k .unit) own keeper))

@@ -25,7 +25,7 @@ use Rattle.model.specs.declared.Answer.{Answer}
 use Rattle.model.specs.declared.Answer.the-variants.{Run}
 use Rattle.units.specs.declared.UnitState.the-variants.{Used}
 use Rattle.units.specs.Unit.{unitState, unitAt, keeperOf, keySetOf, method, isValid, workingKey, genKey}
-use Rattle.units.specs.UnitLaws.{key-set-length}
+use Rattle.units.specs.UnitLaws.{keeper-small, key-set-length}
 use Rattle.slots.specs.Slot.{slotAt, slotUnit, slotCommand, rightToken, freed}
 use Rattle.judge.specs.Command.{codeOf, pageOf, lengthField, isBare, needFor}
 use Rattle.judge.specs.Seen.{Seen, seen}
@@ -48,7 +48,7 @@ use Rattle.calls.specs.Open.{reasonAtOpen, judgedOut, openOut}
 use Rattle.calls.specs.OpenLaws.{open-judged, judged-refuses}
 use Rattle.calls.specs.Close.{heldBy, closeOut}
 use Rattle.calls.specs.CloseLaws.{holds-open, whole-refused, close-held}
-use Rattle.runs.specs.WholeLaws.{whole-cases, Obeys, obeys}
+use Rattle.runs.specs.WholeLaws.{whole-cases, Obeys, obeys, laid-keeper}
 use Rattle.runs.specs.FinalLaws.{open-final, close-final, good-open, good-close, answered-code}
 
 -- ---- refusing always: an open INQUIRY gets A2 on every used, sound unit, and every byte is kept
@@ -209,12 +209,6 @@ pub record KeyMade (before after d : List ℕ) : Type 0 where
   pub key : workingKey (newVersion d) after ≡ hmac bySha1 (genKey before) (seed d)
   pub differs : isValid (newVersion d) before ≡ false → after ≡ before → ⊥
 
--- a record laid at the keeper's place is the key set
-key-set-here : (units : List ℕ) (u : ℕ) (rec : List ℕ) → length units ≡ 4096 → u < 8 → length rec ≡ 512
-    → keySetOf (patch units (keeperOf units u * 512) rec) u ≡ rec
-unfolding keySetOf keeperOf
-key-set-here units u rec full h long = record-here units u rec long (omega arith)
-
 key-laid : (units : List ℕ) (u page : ℕ) (d : List ℕ) → page ≡ setKey
     → laid units u (madeBy (seen units u) page d)
     ≡ patch units (keeperOf units u * 512) (workingKeySet (newVersion d) (seed d) (keySetOf units u))
@@ -223,13 +217,18 @@ key-laid units u page d e = rw e
 
 key-made : (units : List ℕ) (u page : ℕ) (d : List ℕ) → Obeys units u page d → page ≡ setKey
     → KeyMade (keySetOf units u) (keySetOf (laid units u (madeBy (seen units u) page d)) u) d
+unfolding keySetOf
 key-made units u page d o e =
     let hv = right-version page d e (o .right) in
-    let full = key-set-length u units (o .full) (o .small) in
+    let units-full = o .full in
+    let small = keeper-small units u (o .used) (o .small) in
+    let full = key-set-length units u (o .used) (o .full) (o .small) in
     let new = workingKeySet (newVersion d) (seed d) (keySetOf units u) in
+    -- the record laid at the keeper's place is the key set
     let here : keySetOf (laid units u (madeBy (seen units u) page d)) u ≡ new =
-    ap (λ (us : List ℕ). keySetOf us u) (key-laid units u page d e)
-    ∙ key-set-here units u new (o .full) (o .small) (key-length (newVersion d) (seed d) (keySetOf units u) hv full) in
+    ap (λ (p : ℕ). unitAt p (laid units u (madeBy (seen units u) page d))) (laid-keeper units u page d o u)
+    ∙ ap (unitAt (keeperOf units u)) (key-laid units u page d e)
+    ∙ record-here units (keeperOf units u) new (key-length (newVersion d) (seed d) (keySetOf units u) hv full) (omega arith) in
     subst (λ (rec : List ℕ). KeyMade (keySetOf units u) rec d) (sym here)
     (record {
       valid = key-valid (newVersion d) (seed d) (keySetOf units u) hv full;

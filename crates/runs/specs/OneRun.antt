@@ -142,8 +142,8 @@ pub record WronglyLent : Type 0 where
   pub closed : (l : Lent) (s : ℕ) (d : List ℕ) (clock : ℕ) → rightlyLent l ≡ false → closeOut l s d clock ≡ gives H1 l
   pub aborted : (slots : List ℕ) (s : ℕ) → (length slots ≡ 8192 → ⊥) → abortOut slots s ≡ leaves H1 slots
   pub reset : (slots : List ℕ) → (length slots ≡ 8192 → ⊥) → resetOut slots ≡ leaves H1 slots
-  pub built : (units : List ℕ) (u m t : ℕ) (id auth gen : List ℕ) → (length units ≡ 4096 → ⊥)
-      → buildOut units u m t id auth gen ≡ leaves H1 units
+  pub built : (units : List ℕ) (u m t : ℕ) (id auth gen : List ℕ) (k : ℕ) → (length units ≡ 4096 → ⊥)
+      → buildOut units u m t id auth gen k ≡ leaves H1 units
 
 pub wrongly-lent : WronglyLent
 wrongly-lent =
@@ -152,5 +152,5 @@ wrongly-lent =
       closed = λ l s d clock f. sym (close-h1 l s d clock (rightlyLent l) refl f);
       aborted = λ slots s n. sym (abort-length slots s n);
       reset = λ slots n. sym (reset-length slots n);
-      built = λ units u m t id auth gen n. sym (build-length units u m t id auth gen n);
+      built = λ units u m t id auth gen k n. sym (build-length units u m t id auth gen k n);
     }

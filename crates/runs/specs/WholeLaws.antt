@@ -1,6 +1,7 @@
 -- Laws of a whole command: it is what an open answers that doesn't park it; its cases; and what every one of them has: a final answer, as
--- many written bytes as its count says, a unit table of the same length, and every other unit's record as it was.
-use mathlib.Core.Path.{_≡_, refl, sym, ap, _∙_}
+-- many written bytes as its count says, a unit table of the same length, every record but the unit's and its keeper's as it was, and
+-- everybody's keeper.
+use mathlib.Core.Path.{_≡_, refl, sym, ap, _∙_, subst}
 use mathlib.Core.Bool.{Bool, true, false}
 use mathlib.Core.List.{List, []}
 use Prim.Native.Nat.{ℕ, _*_, _<_}
@@ -19,15 +20,15 @@ use Rattle.model.specs.Totals.{totalOf}
 use Rattle.model.specs.Answers.{isFinal, countIn}
 use Rattle.model.specs.declared.Answer.the-variants.{Good, Run}
 use Rattle.units.specs.declared.UnitState.the-variants.{Used}
-use Rattle.units.specs.Unit.{unitAt, keeperOf, keySetOf, unitState, unitStateOf}
-use Rattle.units.specs.UnitLaws.{unit-length, keeper-small, keeper-used}
+use Rattle.units.specs.Unit.{unitAt, keeperField, keeperOf, keySetOf, unitState, unitStateOf}
+use Rattle.units.specs.UnitLaws.{unit-length, keeps-has, used-has, keeper-small, same-keeper, same-state}
 use Rattle.judge.specs.Command.{codeOf, pageOf}
 use Rattle.judge.specs.Seen.{seen}
 use Rattle.judge.specs.JudgementLaws.{open-passed}
 use Rattle.pages.specs.Out.{newMethod, newTag, wrongList}
 use Rattle.pages.specs.OutLaws.{right-method}
 use Rattle.pages.specs.Effects.{attributesSet, newKeys}
-use Rattle.pages.specs.EffectLaws.{attributes-length, attributes-used, new-length, new-used}
+use Rattle.pages.specs.EffectLaws.{attributes-length, attributes-frame, attributes-used, new-length, new-used, new-field}
 use Rattle.calls.specs.Whole.{Asked, nothing, attributes, keySet, Local, local, isReplied, replyTo, madeBy, passed, judged, laid, Whole, stored, wholeReason, whole}
 use Rattle.calls.specs.WholeLaws.{out-code, same-reason, passed-same, close-early, close-none, list-passed, judged-passed, judged-refused}
 use Rattle.calls.specs.Open.{reasonAtOpen, parks, answeredAtOpen}
@@ -113,36 +114,40 @@ module _ (units : List ℕ) (u page : ℕ) (d : List ℕ) (o : Obeys units u pag
     pub put : new ≡ patch units (place * 512) bytes
     pub sound : unitStateOf place (unitAt place units) ≡ Used
     pub again : unitStateOf place bytes ≡ Used
+    pub field : keeperField bytes ≡ keeperField (unitAt place units)
     pub near : (v : ℕ) → (u ≡ v → ⊥) → (keeperOf units u ≡ v → ⊥) → place ≡ v → ⊥
 
   written-by : (b : Bool) → eqb page setAttributes ≡ b
       → Written (laid units u (pick b (attributes (attributesSet (newMethod d) (newTag d) (unitAt u units))) (keySet (newKeys page d (keySetOf units u)))))
-  unfolding unitState keySetOf
+  unfolding keySetOf
   written-by true e =
       let full = unit-length u units (o .full) (o .small) in
       let m = right-method page d (eqb-true page setAttributes e) (o .right) in
+      let own = used-has units u (o .used) .0 in
       record {
         place = u;
         bytes = attributesSet (newMethod d) (newTag d) (unitAt u units);
         at = o .small;
         long = attributes-length (newMethod d) (newTag d) (unitAt u units) full;
         put = refl;
-        sound = o .used;
-        again = attributes-used (newMethod d) (newTag d) (unitAt u units) full u m (o .used);
+        sound = own;
+        again = attributes-used (newMethod d) (newTag d) (unitAt u units) full u m own;
+        field = attributes-frame (newMethod d) (newTag d) (unitAt u units) full .same-field;
         near = λ v n m e. n e;
       }
   written-by false e =
-      let h = keeper-small units u (o .small) in
+      let h = keeper-small units u (o .used) (o .small) in
       let full = unit-length (keeperOf units u) units (o .full) h in
-      let used = keeper-used units u (o .used) in
+      let keeps = keeps-has units (keeperOf units u) (used-has units u (o .used) .1) in
       record {
         place = keeperOf units u;
         bytes = newKeys page d (unitAt (keeperOf units u) units);
         at = h;
         long = new-length page d (unitAt (keeperOf units u) units) (o .right) full;
         put = refl;
-        sound = used;
-        again = new-used page d (unitAt (keeperOf units u) units) (o .right) full (keeperOf units u) used;
+        sound = keeps .0;
+        again = new-used page d (unitAt (keeperOf units u) units) (o .right) full (keeperOf units u) (keeps .0) (keeps .1);
+        field = new-field page d (unitAt (keeperOf units u) units) (o .right) full;
         near = λ v n m e. m e;
       }
 
@@ -159,7 +164,7 @@ module _ (units : List ℕ) (u page : ℕ) (d : List ℕ) (o : Obeys units u pag
       let full = o .full in
       ap length (w .put) ∙ record-length units (w .place) (w .bytes) (w .long) (omega arith) ∙ full
 
-  -- no byte of another unit's record
+  -- no byte of a record but the unit's and its keeper's
   pub laid-others : (v : ℕ) → (u ≡ v → ⊥) → (keeperOf units u ≡ v → ⊥)
       → unitAt v (laid units u (madeBy (seen units u) page d)) ≡ unitAt v units
   laid-others v n m =
@@ -167,23 +172,38 @@ module _ (units : List ℕ) (u page : ℕ) (d : List ℕ) (o : Obeys units u pag
       let full = o .full in
       ap (unitAt v) (w .put) ∙ record-other units (w .place) (w .bytes) (w .long) (omega arith) v (w .near v n m)
 
-  -- every unit is used or unused, sound or unsound, as it was
-  pub laid-state : (v : ℕ) → unitState (laid units u (madeBy (seen units u) page d)) v ≡ unitState units v
-  unfolding unitState
-  laid-state v = by-place (eqb (w .place) v) refl
+  -- what holds of the record that is written, as it was and as it is, holds of every record
+  each-record : (P : ℕ → List ℕ → List ℕ → Type 0) → P (w .place) (w .bytes) (unitAt (w .place) units)
+      → ((v : ℕ) → P v (unitAt v units) (unitAt v units))
+      → (v : ℕ) → P v (unitAt v (laid units u (madeBy (seen units u) page d))) (unitAt v units)
+  each-record P there same v = by-place (eqb (w .place) v) refl
     where
-      by-place : (b : Bool) → eqb (w .place) v ≡ b
-          → unitStateOf v (unitAt v (laid units u (madeBy (seen units u) page d))) ≡ unitStateOf v (unitAt v units)
+      by-place : (b : Bool) → eqb (w .place) v ≡ b → P v (unitAt v (laid units u (madeBy (seen units u) page d))) (unitAt v units)
       by-place true e =
           let h = w .at in
           let full = o .full in
           let q = eqb-true (w .place) v e in
           let here = ap (unitAt (w .place)) (w .put) ∙ record-here units (w .place) (w .bytes) (w .long) (omega arith) in
-          rw (← q) (ap (unitStateOf (w .place)) here ∙ w .again ∙ sym (w .sound))
+          subst (λ (x : ℕ). P x (unitAt x (laid units u (madeBy (seen units u) page d))) (unitAt x units)) q
+          (subst (λ (x : List ℕ). P (w .place) x (unitAt (w .place) units)) (sym here) there)
       by-place false e =
           let h = w .at in
           let full = o .full in
-          ap (unitStateOf v) (ap (unitAt v) (w .put) ∙ record-other units (w .place) (w .bytes) (w .long) (omega arith) v (eqb-false (w .place) v e))
+          let other = ap (unitAt v) (w .put) ∙ record-other units (w .place) (w .bytes) (w .long) (omega arith) v (eqb-false (w .place) v e) in
+          subst (λ (x : List ℕ). P v x (unitAt v units)) (sym other) (same v)
+
+  -- nobody's keeper moves
+  pub laid-field : (v : ℕ) → keeperField (unitAt v (laid units u (madeBy (seen units u) page d))) ≡ keeperField (unitAt v units)
+  laid-field = each-record (λ v new old. keeperField new ≡ keeperField old) (w .field) (λ v. refl)
+
+  pub laid-keeper : (v : ℕ) → keeperOf (laid units u (madeBy (seen units u) page d)) v ≡ keeperOf units v
+  laid-keeper v = same-keeper (laid units u (madeBy (seen units u) page d)) units v (laid-field v)
+
+  -- and every unit is used or unused, sound or unsound, as it was
+  pub laid-state : (v : ℕ) → unitState (laid units u (madeBy (seen units u) page d)) v ≡ unitState units v
+  laid-state =
+      same-state (laid units u (madeBy (seen units u) page d)) units
+      (each-record (λ v new old. unitStateOf v new ≡ unitStateOf v old) (w .again ∙ sym (w .sound)) (λ v. refl)) laid-field
 
 -- ---- and so of every whole command
 
@@ -205,3 +225,12 @@ module _ (units : List ℕ) (k : Asked) (d : List ℕ) (clock : ℕ) (full : len
   whole-state v =
       whole-cases units k d clock (λ (w : Whole). unitState (w .units) v ≡ unitState units v) (λ n. refl)
       (λ z t. laid-state units (k .unit) (pageOf (k .command)) d (obeys units k d clock full z t) v) (λ z f r. refl) (λ z f r. refl)
+
+  -- nobody's keeper moves
+  pub whole-field : (v : ℕ) → keeperField (unitAt v (whole units k d clock .units)) ≡ keeperField (unitAt v units)
+  whole-field v =
+      whole-cases units k d clock (λ (w : Whole). keeperField (unitAt v (w .units)) ≡ keeperField (unitAt v units)) (λ n. refl)
+      (λ z t. laid-field units (k .unit) (pageOf (k .command)) d (obeys units k d clock full z t) v) (λ z f r. refl) (λ z f r. refl)
+
+  pub whole-keeper : (v : ℕ) → keeperOf (whole units k d clock .units) v ≡ keeperOf units v
+  whole-keeper v = same-keeper (whole units k d clock .units) units v (whole-field v)

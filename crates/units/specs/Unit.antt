@@ -1,7 +1,7 @@
--- Unit records (document 01, "Records of 512 bytes", Unit): fields, soundness, and the unit table with the key set of each unit.
-use mathlib.Core.Bool.{Bool, true}
+-- Unit records (document 01, "Records of 512 bytes", Unit; 02, K4): fields, soundness, and the unit table with the key set of each unit.
+use mathlib.Core.Bool.{Bool, true, false}
 use mathlib.Core.List.{List, _++_}
-use Prim.Native.Nat.{ℕ, zero, suc, _+_, _*_, _/_, _%_, _^_}
+use Prim.Native.Nat.{ℕ, zero, suc, _+_, _-_, _*_, _/_, _%_, _^_}
 use lib.Dec.{eqb, leb}
 use lib.ListN.{replicate}
 use Rattle.choice.specs.Choice.{both, either, pick}
@@ -55,6 +55,10 @@ workingKey v l = part (112 + 20 * v) 20 l
 unfoldable pub isValid : ℕ → List ℕ → Bool
 isValid v l = eqb (mask l / 2 ^ v % 2) 1
 
+-- 432-433 whose keys: zero for own keys, or one more than the number of the unit that keeps them
+unfoldable pub keeperField : List ℕ → ℕ
+keeperField l = number 2 432 l
+
 -- ---- a record with another value in a field: all else is kept, the check too, which `seal` makes anew
 
 abbrev pub withMethod : ℕ → List ℕ → List ℕ
@@ -89,12 +93,20 @@ unfoldable pub keysZero : ℕ → List ℕ → Bool
 keysZero zero l = true
 keysZero (suc v) l = both (keysZero v l) (either (isValid v l) (zeros 20 (112 + 20 * v) l))
 
--- the bytes that are unnamed today: 432-491
+-- a sharer's own mask, step and key bytes (32-431) are zero
+unfoldable pub noKeys : List ℕ → Bool
+noKeys l = both (eqb (mask l) 0) (both (eqb (step l) 0) (zeros 400 32 l))
+
+-- own keys, or those of a unit of 0 to 7 and none here
+unfoldable pub keeperShape : List ℕ → Bool
+keeperShape l = either (eqb (keeperField l) 0) (both (leb (keeperField l) 8) (noKeys l))
+
+-- the bytes that no field has: 434-491
 unfoldable pub unnamedZero : List ℕ → Bool
-unnamedZero l = zeros 60 432 l
+unnamedZero l = zeros 58 434 l
 
 -- a used record at the place u: number equal to its place, method 0 or 1, step 0 or 1, next pair zero at step 0, keys zero where not
--- valid, unnamed bytes zero
+-- valid, a field of 0 to 8 and no keys beside one that is not zero, unnamed bytes zero
 unfoldable pub usedShape : ℕ → List ℕ → Bool
 usedShape u l =
     both (eqb (layout l) 1)
@@ -102,9 +114,10 @@ usedShape u l =
     (both (leb (method l) 1)
     (both (leb (step l) 1)
     (both (either (eqb (step l) 1) (nextPairZero l))
-    (both (keysZero 16 l) (unnamedZero l))))))
+    (both (keysZero 16 l)
+    (both (keeperShape l) (unnamedZero l)))))))
 
--- soundness is check, shape and zeros together; an unused record is zero up to 491, at any place
+-- what a record is by its own bytes: soundness is check, shape and zeros together; an unused record is zero up to 491, at any place
 unfoldable pub unitStateOf : ℕ → List ℕ → UnitState
 unitStateOf u l = pick (checked l) (pick (zeros 492 0 l) Unused (pick (usedShape u l) Used Unsound)) Unsound
 
@@ -114,13 +127,28 @@ unitStateOf u l = pick (checked l) (pick (zeros 492 0 l) Unused (pick (usedShape
 abbrev pub unitAt : ℕ → List ℕ → List ℕ
 unitAt u units = part (u * 512) 512 units
 
-unfoldable pub unitState : List ℕ → ℕ → UnitState
-unitState units u = unitStateOf u (unitAt u units)
-
--- the unit that keeps unit u's keys, mask and step: itself
+-- the unit that keeps unit u's keys, mask and step: itself, or the one that its field names
 unfoldable pub keeperOf : List ℕ → ℕ → ℕ
-keeperOf units u = u
+keeperOf units u = pick (eqb (keeperField (unitAt u units)) 0) u (keeperField (unitAt u units) - 1)
 
 -- unit u's key set: the record of its keeper
 unfoldable pub keySetOf : List ℕ → ℕ → List ℕ
 keySetOf units u = unitAt (keeperOf units u) units
+
+abbrev pub isUsed : UnitState → Bool
+isUsed Unused = false
+isUsed Used = true
+isUsed Unsound = false
+
+-- may unit k keep keys? Its record is sound, used and with zero in the field
+unfoldable pub keepsKeys : List ℕ → ℕ → Bool
+keepsKeys units k = both (isUsed (unitStateOf k (unitAt k units))) (eqb (keeperField (unitAt k units)) 0)
+
+-- a used record is sound where its keeper keeps keys; whether one is unused, its own bytes say
+abbrev pub keptState : Bool → UnitState → UnitState
+keptState kept Unused = Unused
+keptState kept Used = pick kept Used Unsound
+keptState kept Unsound = Unsound
+
+unfoldable pub unitState : List ℕ → ℕ → UnitState
+unitState units u = keptState (keepsKeys units (keeperOf units u)) (unitStateOf u (unitAt u units))

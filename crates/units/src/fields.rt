@@ -7,10 +7,12 @@ ghost use Prim.Native.Nat.{_+_, _≤_, _<_, _/_, _%_, _^_};
 ghost use lib.Dec.{eqb};
 ghost use lib.ListN.{length};
 ghost use Rattle.wire.specs.Bytes.{bytesOf, patch};
-ghost use Rattle.units.specs.Unit.{method, mask, policyTag, step, identifier, authKey, genKey, nextAuthKey, nextGenKey};
+ghost use Rattle.units.specs.Unit.{method, mask, policyTag, step, identifier, authKey, genKey, nextAuthKey, nextGenKey, keeperField};
 ghost use Rattle.units.specs.Unit.{isValid, workingKey, withMethod, withMask, withTag, withStep, withPair, withNextPair};
 ghost use Rattle.units.specs.Unit.{withWorkingKey, withoutNextAndWorking};
-ghost use Rattle.units.specs.Fields.{usedRecord, built};
+ghost use Rattle.seal.specs.Seal.{blank};
+ghost use Rattle.units.specs.Fields.{usedRecord, ownKey, built};
+ghost use Rattle.units.specs.RoundLaws.{builtNumbers};
 
 pub const LAYOUT: usize = 0;
 
@@ -26,7 +28,7 @@ const STEP: usize = 12;
 
 const IDENTIFIER: usize = 16;
 
-const AUTH_KEY: usize = 32;
+pub const AUTH_KEY: usize = 32;
 
 const GEN_KEY: usize = 52;
 
@@ -36,7 +38,9 @@ const NEXT_GEN_KEY: usize = 92;
 
 pub const WORKING_KEYS: usize = 112;
 
-pub const UNNAMED: usize = 432;
+pub const KEEPER: usize = 432;
+
+pub const UNNAMED: usize = 434;
 
 // ---- read
 
@@ -64,6 +68,13 @@ pub fn step_of(rec: &[u8]) -> u32
     ensures { λ r. ⌜ r ≡ step (now (rec .entry)) ⌝ }
 {
     wire::be32(rec, STEP)
+}
+
+// Zero for own keys, or one more than the number of the unit that keeps them.
+pub fn keeper_field_of(rec: &[u8]) -> u32
+    ensures { λ r. ⌜ r ≡ keeperField (now (rec .entry)) ⌝ }
+{
+    wire::be16(rec, KEEPER) as u32
 }
 
 pub fn identifier_of(rec: &[u8]) -> &[u8]
@@ -210,7 +221,39 @@ pub fn clear_next_and_working(rec: &mut [u8])
     requires { ⌜ length (now rec) ≡ 512 ⌝ }
     ensures { λ _. ⌜ now (rec .exit) ≡ withoutNextAndWorking (now (rec .entry)) ⌝ }
 {
-    seal::clear(&mut rec[NEXT_AUTH_KEY..UNNAMED]);
+    seal::clear(&mut rec[NEXT_AUTH_KEY..KEEPER]);
+}
+
+// A key that is asked for; zeros at a sharer, which has none of its own.
+fn own_key(keeper: u32, key: [u8; 20]) -> [u8; 20]
+    ensures { λ r. ⌜ r ≡ ownKey keeper «key» ⌝ }
+{
+    if keeper == 0 { key } else { [0u8; 20] }
+}
+
+// The pair of a unit that is built.
+fn set_own_pair(rec: &mut [u8], keeper: u32, auth_key: [u8; 20], gen_key: [u8; 20])
+    requires { ⌜ length (now rec) ≡ 512 ⌝ }
+    ensures { λ _. ⌜ now (rec .exit) ≡ withPair (ownKey keeper «auth_key») (ownKey keeper «gen_key») (now (rec .entry)) ⌝ }
+{
+    let auth = own_key(keeper, auth_key);
+    let generation = own_key(keeper, gen_key);
+    set_pair(rec, auth, generation);
+}
+
+// The numbers at the front of a record as it is built, and zeros behind them, over whatever stood there.
+fn write_numbers(rec: &mut [u8], unit: UnitNo, method: u32, tag: u32)
+    requires { ⌜ length (now rec) ≡ 512 ⌝ }
+    ensures { λ _. ⌜ now (rec .exit) ≡ patch blank 0 (builtNumbers (unit .0) method tag) ⌝ }
+{
+    let number = unit.0;
+    seal::clear(rec);
+    put2(rec, LAYOUT, 1);
+    put2(rec, NUMBER, number);
+    set_method(rec, method);
+    set_mask(rec, 0);
+    set_tag(rec, tag);
+    set_step(rec, 0);
 }
 
 // A record as it is built, with its check, over whatever stood there.
@@ -222,19 +265,14 @@ pub fn write_built(
     id: [u8; 16],
     auth_key: [u8; 20],
     gen_key: [u8; 20],
+    keeper: u32,
 )
     requires { ⌜ length (now rec) ≡ 512 ⌝ }
-    ensures { λ _. ⌜ now (rec .exit) ≡ usedRecord (built (unit .0) method tag id «auth_key» «gen_key») ⌝ }
+    ensures { λ _. ⌜ now (rec .exit) ≡ usedRecord (built (unit .0) method tag id «auth_key» «gen_key» keeper) ⌝ }
 {
-    let number = unit.0;
-    seal::clear(rec);
-    put2(rec, LAYOUT, 1);
-    put2(rec, NUMBER, number);
-    set_method(rec, method);
-    set_mask(rec, 0);
-    set_tag(rec, tag);
-    set_step(rec, 0);
+    write_numbers(rec, unit, method, tag);
     wire::put(rec, IDENTIFIER, &id);
-    set_pair(rec, auth_key, gen_key);
+    set_own_pair(rec, keeper, auth_key, gen_key);
+    put2(rec, KEEPER, keeper);
     seal::seal_record(rec);
 }

@@ -1,6 +1,7 @@
 // The table of eight unit records: what a unit's record is, what makes one sound, and which keeps a unit's keys.
 mod fields;
 
+use fields::AUTH_KEY;
 pub use fields::Key;
 use fields::LAYOUT;
 use fields::NEXT_AUTH_KEY;
@@ -12,6 +13,7 @@ pub use fields::clear_next_and_working;
 pub use fields::gen_key_of;
 use fields::has_bit;
 pub use fields::identifier_of;
+use fields::keeper_field_of;
 pub use fields::mask_of;
 pub use fields::method_of;
 pub use fields::next_auth_key_of;
@@ -31,7 +33,8 @@ use model::UnitNo;
 ghost use mathlib.Core.Path.{_≡_};
 ghost use Prim.Native.Nat.{_<_};
 ghost use lib.ListN.{length};
-ghost use Rattle.units.specs.Unit.{keysZero, usedShape, unitStateOf, unitAt, unitState, keeperOf, keySetOf};
+ghost use Rattle.units.specs.declared.UnitState.the-variants.{Used};
+ghost use Rattle.units.specs.Unit.{keysZero, noKeys, keeperShape, usedShape, unitStateOf, unitAt, keeperOf, keySetOf, isUsed, keepsKeys, unitState};
 
 pub enum UnitState {
     Unused,
@@ -54,6 +57,25 @@ fn keys_zero(rec: &[u8]) -> bool
     ok
 }
 
+// Are mask, step and all key bytes zero?
+fn has_no_keys(rec: &[u8]) -> bool
+    ensures { λ r. ⌜ r ≡ noKeys (now (rec .entry)) ⌝ }
+{
+    let keys = wire::are_zeros(rec, AUTH_KEY, 400);
+    choice::and(mask_of(rec) == 0, choice::and(step_of(rec) == 0, keys))
+}
+
+// Has it own keys, or a keeper of 0 to 7 and none?
+fn keeper_shape(rec: &[u8]) -> bool
+    ensures { λ r. ⌜ r ≡ keeperShape (now (rec .entry)) ⌝ }
+{
+    let field = keeper_field_of(rec);
+    if field == 0 {
+        return true;
+    }
+    choice::and(field <= 8, has_no_keys(rec))
+}
+
 // Has the record the shape of a used one at its place?
 fn used_shape(rec: &[u8], place: UnitNo) -> bool
     ensures { λ r. ⌜ r ≡ usedShape (place .0) (now (rec .entry)) ⌝ }
@@ -63,7 +85,8 @@ fn used_shape(rec: &[u8], place: UnitNo) -> bool
     let method = method_of(rec) <= 1;
     let step = step_of(rec);
     let pair = choice::or(step == 1, wire::are_zeros(rec, NEXT_AUTH_KEY, 40));
-    let keys = choice::and(keys_zero(rec), wire::are_zeros(rec, UNNAMED, 60));
+    let rest = choice::and(keeper_shape(rec), wire::are_zeros(rec, UNNAMED, 58));
+    let keys = choice::and(keys_zero(rec), rest);
     choice::and(
         layout,
         choice::and(
@@ -73,7 +96,7 @@ fn used_shape(rec: &[u8], place: UnitNo) -> bool
     )
 }
 
-// The state of a record at its place. An unused one is found without a hash.
+// The state of a record at its place, by its own bytes. An unused one is found without a hash.
 pub fn state_of(rec: &[u8], place: UnitNo) -> UnitState
     requires { ⌜ length (now rec) ≡ 512 ⌝ }
     ensures { λ r. ⌜ r ≡ unitStateOf (place .0) (now (rec .entry)) ⌝ }
@@ -97,25 +120,63 @@ pub fn record_of(units: &[u8], unit: UnitNo) -> &[u8]
     &units[a..e]
 }
 
-// The state of a unit's record.
+fn is_used(s: UnitState) -> bool
+    ensures { λ r. ⌜ r ≡ isUsed s ⌝ }
+{
+    match s {
+        UnitState::Unused => false,
+        UnitState::Used => true,
+        UnitState::Unsound => false,
+    }
+}
+
+// May the unit keep keys? The field is looked at first, so that a record that names itself is not hashed twice.
+pub fn keeps_keys(units: &[u8], unit: UnitNo) -> bool
+    requires { ⌜ (length (now units) ≡ 4096) × (unit .0 < 8) ⌝ }
+    ensures { λ r. ⌜ r ≡ keepsKeys (now (units .entry)) (unit .0) ⌝ }
+{
+    let rec = record_of(units, unit);
+    if keeper_field_of(rec) == 0 {
+        return is_used(state_of(rec, unit));
+    }
+    false
+}
+
+// The state of a unit's record: by its own bytes, and a sharer's by its keeper's too.
 pub fn unit_state(units: &[u8], unit: UnitNo) -> UnitState
     requires { ⌜ (length (now units) ≡ 4096) × (unit .0 < 8) ⌝ }
     ensures { λ r. ⌜ r ≡ unitState (now (units .entry)) (unit .0) ⌝ }
 {
-    state_of(record_of(units, unit), unit)
+    let rec = record_of(units, unit);
+    let state = state_of(rec, unit);
+    let field = keeper_field_of(rec);
+    if field == 0 {
+        return state;
+    }
+    if is_used(state) {
+        if keeps_keys(units, UnitNo(field - 1)) {
+            return UnitState::Used;
+        }
+        return UnitState::Unsound;
+    }
+    state
 }
 
-// The unit whose record keeps a unit's keys, mask and step.
+// The unit whose record keeps a used unit's keys, mask and step: itself, or the one that its field names.
 pub fn keeper_of(units: &[u8], unit: UnitNo) -> UnitNo
-    requires { ⌜ (length (now units) ≡ 4096) × (unit .0 < 8) ⌝ }
+    requires { ⌜ (length (now units) ≡ 4096) × (unit .0 < 8) × (unitState (now units) (unit .0) ≡ Used) ⌝ }
     ensures { λ r. ⌜ (r .0 ≡ keeperOf (now (units .entry)) (unit .0)) × (r .0 < 8) ⌝ }
 {
-    unit
+    let field = keeper_field_of(record_of(units, unit));
+    if field == 0 {
+        return unit;
+    }
+    UnitNo(field - 1)
 }
 
-// A unit's key set: the record of its keeper.
+// The key set of a used unit: the record of its keeper.
 pub fn keys_of(units: &[u8], unit: UnitNo) -> &[u8]
-    requires { ⌜ (length (now units) ≡ 4096) × (unit .0 < 8) ⌝ }
+    requires { ⌜ (length (now units) ≡ 4096) × (unit .0 < 8) × (unitState (now units) (unit .0) ≡ Used) ⌝ }
     ensures { λ r. ⌜ now r ≡ keySetOf (now (units .entry)) (unit .0) ⌝ }
 {
     record_of(units, keeper_of(units, unit))

@@ -31,6 +31,7 @@ const SEED: u64 = 1805;
 const MEASURED: usize = 20_000;
 
 const UNIT: u32 = 2;
+const SHARER: u32 = 5;
 const VERSION: u8 = 3;
 const TOKEN: usize = 16;
 const CLOCK: u64 = 1000;
@@ -47,8 +48,12 @@ const CREDENTIAL_BLOCKS: usize = mac_blocks(DESCRIPTOR) + mac_blocks(TOKEN);
 const JUDGED: usize = RECORD_BLOCKS + CREDENTIAL_BLOCKS;
 /// Judged and the slot sealed; the slot checked and judged again.
 const PARKED_AND_CLOSED: usize = 2 * (RECORD_BLOCKS + JUDGED);
-/// Also the key made of its seed, and the unit sealed.
+/// Also the key made of its seed, and the record that holds it sealed.
 const KEY_SET: usize = PARKED_AND_CLOSED + mac_blocks(DIGEST) + RECORD_BLOCKS;
+/// A sharer is judged by its keeper's record too: once by an open alone, twice
+/// by an open and a close.
+const JUDGED_AT_SHARER: usize = JUDGED + RECORD_BLOCKS;
+const KEY_SET_AT_SHARER: usize = KEY_SET + 2 * RECORD_BLOCKS;
 
 /// The message whose hashing tells the time of a block.
 const HASHED: usize = 65_536;
@@ -81,7 +86,8 @@ struct Row {
 
 fn main() {
     let implementations = implementations();
-    let rows = Desk::new().rows();
+    let desk = Desk::new();
+    let rows = [desk.rows(), desk.of_sharer().rows_at_sharer()].concat();
     let checked: Result<Vec<_>, _> = rows
         .iter()
         .map(|row| check(row, &implementations))
@@ -125,10 +131,11 @@ fn over(name: &'static str, hashes: impl Hashes + 'static) -> Implementation {
     }
 }
 
-/// What the requests are made of: a CAPKEY unit, a seed for its working key
-/// and the token of the path.
+/// What the requests are made of: a CAPKEY unit, the unit that keeps its keys
+/// if it is a sharer, a seed for its working key and the token of the path.
 struct Desk {
     asked: Build,
+    keeper: Option<Build>,
     seed: Key,
     token: [u8; TOKEN],
 }
@@ -146,9 +153,27 @@ impl Desk {
                     authentication: rng.array(),
                     generation: rng.array(),
                 },
+                keeper: 0,
             },
+            keeper: None,
             seed: rng.array(),
             token: rng.array(),
+        }
+    }
+
+    /// The same for a unit whose keys the desk's keeps.
+    fn of_sharer(&self) -> Desk {
+        Desk {
+            asked: Build {
+                unit: SHARER,
+                tag: 8,
+                identifier: self.asked.identifier.map(|byte| !byte),
+                keeper: UNIT + 1,
+                ..self.asked
+            },
+            keeper: Some(self.asked),
+            seed: self.seed,
+            token: self.token,
         }
     }
 
@@ -207,6 +232,25 @@ impl Desk {
         ]
     }
 
+    fn rows_at_sharer(&self) -> Vec<Row> {
+        let read = vec![self.open(self.read(CLOCK))];
+        let key_set = vec![Answer::A1 { slot: 0 }, Answer::A0 { count: 0 }];
+        vec![
+            self.row(
+                "READ(10) wrapped, open, at a sharer",
+                read,
+                vec![Answer::A2],
+                JUDGED_AT_SHARER,
+            ),
+            self.row(
+                "Set Key, open and close, at a sharer",
+                self.set_key(),
+                key_set,
+                KEY_SET_AT_SHARER,
+            ),
+        ]
+    }
+
     /// A row on the unit with its working key set.
     fn row(
         &self,
@@ -215,10 +259,10 @@ impl Desk {
         answers: Vec<Answer>,
         blocks: usize,
     ) -> Row {
-        let build = vec![Line::Build(self.asked)];
+        let builds = self.keeper.into_iter().chain([self.asked]);
         Row {
             label,
-            before: [build, self.set_key()].concat(),
+            before: builds.map(Line::Build).chain(self.set_key()).collect(),
             calls,
             answers,
             blocks,
@@ -227,7 +271,7 @@ impl Desk {
 
     fn open(&self, command: Vec<u8>) -> Line {
         Line::Open {
-            unit: UNIT,
+            unit: self.asked.unit,
             clock: CLOCK,
             command,
             token: self.token.to_vec(),

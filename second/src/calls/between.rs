@@ -8,7 +8,7 @@ use crate::calls::{lists, Check, Watch, World};
 use crate::codes::{self, CHANGE, SET_ATTRIBUTES, SET_KEY};
 use crate::engine::Build;
 use crate::lines::Buffer;
-use crate::records::{Method, Unit, BODY};
+use crate::records::{Keeper, Method, BODY};
 
 /// The reasons that calls and damage to units bring about.
 pub const BROUGHT_ABOUT: [Reason; 12] = [1, UNSOUND, 6, 8, 9, 10, 12, 13, 14, 15, 18, 19];
@@ -39,9 +39,9 @@ impl<W: Watch> World<W> {
     /// not zero.
     fn new_unit(&mut self, unit: u32, method: u32) {
         let tag = 1 + self.rng.below(0xffff_ffff) as u32;
-        self.fresh(unit, method, tag);
+        self.seat(unit, method, tag);
         let version = self.rng.below(16) as u8;
-        assert!(self.set_key(unit, version));
+        assert!(self.set_key_in_set(unit, version));
     }
 
     /// A data-out case of the unit, other than Change.
@@ -53,7 +53,7 @@ impl<W: Watch> World<W> {
     }
 
     /// Parks a draft that is to pass.
-    fn parked(&mut self, draft: &Draft) -> u32 {
+    pub fn parked(&mut self, draft: &Draft) -> u32 {
         match self.call(draft.line()) {
             Answer::A1 { slot } => slot as u32,
             other => panic!("{other:?} to {}", draft.line()),
@@ -77,10 +77,14 @@ impl<W: Watch> World<W> {
         (slot, clock, self.right_data(&case))
     }
 
-    /// Reason 1b: the unit's record becomes unsound.
+    /// Reason 1b: the record of the unit, or of its keeper, becomes unsound.
     fn unit_is_damaged(&mut self, unit: u32) -> (u32, u64, Vec<u8>) {
         let (case, slot, clock) = self.parked_on_new(unit, |_| true);
-        self.spoil_unit(unit);
+        let spoiled = match case.field() {
+            0 => unit,
+            one_more => self.rng.pick(&[unit, one_more - 1]),
+        };
+        self.spoil_unit(spoiled);
         (slot, clock, self.right_data(&case))
     }
 
@@ -137,7 +141,7 @@ impl<W: Watch> World<W> {
         let slot = self.parked(&draft);
         let other = self.rng.pick(&[0, tag ^ 1, tag ^ 0x8000_0000]);
         if self.rng.one_in(3) {
-            self.build_like(&case.unit, unit, other, case.unit.identifier);
+            self.build_like(&case, other, case.unit.identifier);
         } else {
             assert!(self.set_attributes(unit, method as u16, other));
         }
@@ -145,13 +149,26 @@ impl<W: Watch> World<W> {
     }
 
     /// Builds the unit anew as it is, but for tag and identifier.
-    fn build_like(&mut self, like: &Unit, unit: u32, tag: u32, identifier: [u8; 16]) {
+    fn build_like(&mut self, like: &Case, tag: u32, identifier: [u8; 16]) {
         self.build(Build {
-            unit,
-            method: like.method.number().into(),
+            unit: like.place,
+            method: like.unit.method.number().into(),
             tag,
             identifier,
-            master: like.master,
+            master: like.keeper.keys.master,
+            keeper: like.field(),
+        });
+    }
+
+    /// Builds the keeper anew with the master keys that it has.
+    fn build_keeper_like(&mut self, keeper: &Keeper) {
+        self.build(Build {
+            unit: keeper.place as u32,
+            method: keeper.unit.method.number().into(),
+            tag: keeper.unit.tag,
+            identifier: keeper.unit.identifier,
+            master: keeper.keys.master,
+            keeper: 0,
         });
     }
 
@@ -165,7 +182,7 @@ impl<W: Watch> World<W> {
         let slot = self.parked(&draft);
         let mut identifier = case.unit.identifier;
         identifier[self.rng.below(16) as usize] ^= 1 << self.rng.below(8);
-        self.build_like(&case.unit, unit, case.unit.tag, identifier);
+        self.build_like(&case, case.unit.tag, identifier);
         (slot, clock, self.right_data(&case))
     }
 
@@ -174,7 +191,7 @@ impl<W: Watch> World<W> {
         self.new_unit(unit, 1);
         let is_change = self.rng.one_in(3);
         let case = if is_change {
-            assert!(self.exchange(unit));
+            assert!(self.exchange_in_set(unit));
             self.out_case(unit, CHANGE).expect("the unit is used")
         } else {
             self.data_out_case(unit, |case| !case.is_master())
@@ -183,11 +200,10 @@ impl<W: Watch> World<W> {
         let draft = Draft::wrapped(&case, clock, &mut self.rng);
         let slot = self.parked(&draft);
         if self.rng.one_in(3) {
-            let (tag, identifier) = (case.unit.tag, case.unit.identifier);
-            self.build_like(&case.unit, unit, tag, identifier);
+            self.build_keeper_like(&case.keeper);
         } else {
-            assert!(is_change || self.exchange(unit));
-            assert!(self.change(unit));
+            assert!(is_change || self.exchange_in_set(unit));
+            assert!(self.change_in_set(unit));
         }
         (slot, clock, self.right_data(&case))
     }
@@ -197,7 +213,7 @@ impl<W: Watch> World<W> {
     /// a key that was set again.
     fn key_is_replaced(&mut self, unit: u32) -> (u32, u64, Vec<u8>) {
         self.new_unit(unit, 1);
-        assert!(self.exchange(unit));
+        assert!(self.exchange_in_set(unit));
         let page = self.rng.pick(&[SET_ATTRIBUTES, SET_KEY, CHANGE]);
         let case = match self.rng.below(2) {
             0 => self.out_case(unit, page).expect("the unit is used"),
@@ -207,11 +223,11 @@ impl<W: Watch> World<W> {
         let draft = Draft::wrapped(&case, clock, &mut self.rng);
         let slot = self.parked(&draft);
         if case.is_change() {
-            assert!(self.exchange(unit));
+            assert!(self.exchange_in_set(unit));
         } else if case.is_master() {
-            assert!(self.change(unit));
+            assert!(self.change_in_set(unit));
         } else {
-            assert!(self.set_key(unit, case.versions()[0]));
+            assert!(self.set_key_in_set(unit, case.versions()[0]));
         }
         assert_eq!(case.unit.method, Method::CapKey);
         (slot, clock, self.right_data(&case))
@@ -220,12 +236,12 @@ impl<W: Watch> World<W> {
     /// Reasons 18 and 19, of any of the four pages.
     fn list_is_wrong(&mut self, unit: u32, reason: Reason) -> (u32, u64, Vec<u8>) {
         let (method, tag) = (self.rng.below(2) as u32, self.rng.pick(&[0, 7]));
-        self.fresh(unit, method, tag);
+        self.seat(unit, method, tag);
         let page = self
             .rng
             .pick(&[SET_ATTRIBUTES, codes::SEED_EXCHANGE, SET_KEY, CHANGE]);
         if page == CHANGE {
-            assert!(self.exchange(unit));
+            assert!(self.exchange_in_set(unit));
         }
         let case = self.out_case(unit, page).expect("the unit is used");
         let clock = self.tick();

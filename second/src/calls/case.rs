@@ -4,16 +4,35 @@
 use crate::answer::Reason;
 use crate::calls::{Watch, World};
 use crate::codes::{self, Need, Row, ROWS};
-use crate::records::{Key, Method, Record, Unit, UNITS};
+use crate::records::{Keeper, Key, Member, Method, Record, Unit, UNITS};
 
 #[derive(Clone, Debug)]
 pub struct Case {
     pub place: u32,
     pub unit: Unit,
+    /// Whose keys a command must be made with.
+    pub keeper: Keeper,
     pub row: Row,
 }
 
 impl Case {
+    fn new(member: &Member, row: Row) -> Case {
+        Case {
+            place: member.place as u32,
+            unit: member.unit,
+            keeper: member.keeper.clone(),
+            row,
+        }
+    }
+
+    /// What bytes 432-433 of the unit's record hold.
+    pub fn field(&self) -> u32 {
+        match self.keeper.place as u32 {
+            keeper if keeper == self.place => 0,
+            keeper => keeper + 1,
+        }
+    }
+
     pub fn is_open(&self) -> bool {
         self.row.need == Need::Open
     }
@@ -50,15 +69,15 @@ impl Case {
     /// The key that a command of this version must be made with, if there is
     /// one.
     pub fn key(&self, version: u8) -> Option<Key> {
-        let unit = &self.unit;
+        let keys = &self.keeper.keys;
         if !self.is_master() {
-            unit.working[usize::from(version)]
+            keys.working[usize::from(version)]
         } else if version != 0 {
             None
         } else if self.is_change() {
-            unit.next.map(|next| next.authentication)
+            keys.next.map(|next| next.authentication)
         } else {
-            Some(unit.master.authentication)
+            Some(keys.master.authentication)
         }
     }
 
@@ -72,7 +91,7 @@ impl Case {
     pub fn inherent(&self) -> Option<Reason> {
         if self.is_strict() && self.versions().is_empty() {
             Some(14)
-        } else if self.is_in_seed() && self.unit.next.is_none() {
+        } else if self.is_in_seed() && self.keeper.keys.next.is_none() {
             Some(17)
         } else {
             None
@@ -84,14 +103,23 @@ impl<W: Watch> World<W> {
     /// The case of this unit, if it is used, with this row.
     pub fn case(&self, place: u32, row: Row) -> Option<Case> {
         match self.unit(place) {
-            Record::Used(unit) => Some(Case { place, unit, row }),
+            Record::Used(member) => Some(Case::new(&member, row)),
             _ => None,
         }
     }
 
     /// The case of this unit with a page of SECURITY PROTOCOL OUT.
     pub fn out_case(&self, place: u32, page: u16) -> Option<Case> {
-        let row = |row: &&Row| row.code == codes::OUT && row.page == Some(page);
+        self.paged_case(place, codes::OUT, page)
+    }
+
+    /// The case of this unit with a page of SECURITY PROTOCOL IN.
+    pub fn in_case(&self, place: u32, page: u16) -> Option<Case> {
+        self.paged_case(place, codes::IN, page)
+    }
+
+    fn paged_case(&self, place: u32, code: u8, page: u16) -> Option<Case> {
+        let row = |row: &&Row| row.code == code && row.page == Some(page);
         self.case(place, *ROWS.iter().find(row)?)
     }
 
@@ -99,14 +127,10 @@ impl<W: Watch> World<W> {
     pub fn pick_case(&mut self, fits: impl Fn(&Case) -> bool) -> Option<Case> {
         let mut fitting = Vec::new();
         for place in 0..UNITS as u32 {
-            let Record::Used(unit) = self.unit(place) else {
+            let Record::Used(member) = self.unit(place) else {
                 continue;
             };
-            let cases = ROWS.map(|row| Case {
-                place,
-                unit: unit.clone(),
-                row,
-            });
+            let cases = ROWS.map(|row| Case::new(&member, row));
             fitting.extend(cases.into_iter().filter(|case| fits(case)));
         }
         match fitting.len() {

@@ -5,7 +5,7 @@ use crate::answer::{Answer, UNSOUND};
 use crate::calls::{draft, Check, Watch, World};
 use crate::codes::{is_data_out, parts, ROWS};
 use crate::lines::{Buffer, Line};
-use crate::records::{Body, Record, Unit, BODY, RECORD};
+use crate::records::{Body, Record, UnitRecord, BODY, RECORD};
 use crate::rng::Rng;
 
 /// Bytes of a unit record that have a field of their own or are to be zero,
@@ -32,7 +32,7 @@ impl<W: Watch> World<W> {
             } else {
                 let body = self.body(Buffer::Units, unit);
                 let body = changed(&body, &UNIT_PLACES, &mut self.rng);
-                if Unit::decode(&body, unit as usize).is_some() {
+                if UnitRecord::decode(&body, unit as usize).is_some() {
                     continue;
                 }
                 self.rewrite(Buffer::Units, unit, &body, Check::MadeRight);
@@ -49,19 +49,24 @@ impl<W: Watch> World<W> {
         for _ in 0..rounds {
             let unit = self.rng.below(8) as u32;
             let before = self.tables.units[unit as usize * RECORD..][..RECORD].to_vec();
-            let body = self.body(Buffer::Units, unit);
-            let body = changed(&body, &UNIT_PLACES, &mut self.rng);
-            let check = self
-                .rng
-                .pick(&[Check::MadeRight, Check::MadeRight, Check::Left]);
-            self.rewrite(Buffer::Units, unit, &body, check);
+            self.change_unit_byte(unit);
             self.ask_unit(unit);
             self.put_back(Buffer::Units, unit, &before);
         }
     }
 
+    /// Changes one byte of the unit's record, which may stay sound.
+    pub fn change_unit_byte(&mut self, unit: u32) {
+        let body = self.body(Buffer::Units, unit);
+        let body = changed(&body, &UNIT_PLACES, &mut self.rng);
+        let check = self
+            .rng
+            .pick(&[Check::MadeRight, Check::MadeRight, Check::Left]);
+        self.rewrite(Buffer::Units, unit, &body, check);
+    }
+
     /// A command or two on the unit, which tell how its record is taken.
-    fn ask_unit(&mut self, unit: u32) {
+    pub fn ask_unit(&mut self, unit: u32) {
         let record = self.unit(unit);
         let line = match self.pick_case(|case| case.place == unit) {
             Some(case) => self.spoiled_line(&case, &[]),
@@ -142,7 +147,7 @@ impl<W: Watch> World<W> {
     }
 
     /// Pokes a whole record back to what it was, where it differs.
-    fn put_back(&mut self, buffer: Buffer, place: u32, before: &[u8]) {
+    pub fn put_back(&mut self, buffer: Buffer, place: u32, before: &[u8]) {
         let body: Body = before[..BODY].try_into().expect("cut to that length");
         self.rewrite(buffer, place, &body, Check::Left);
         let from = place as usize * RECORD + BODY;

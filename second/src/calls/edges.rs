@@ -101,6 +101,7 @@ impl<W: Watch> World<W> {
                 tag: number,
                 identifier: rng.array(),
                 master,
+                keeper: 0,
             };
             self.build(asked);
             self.open(number, 0, vec![0x12, 0, 0, 0, 0, 0]);

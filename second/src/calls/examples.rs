@@ -64,6 +64,7 @@ impl<W: Watch> World<W> {
                 authentication: AUTHENTICATION,
                 generation: GENERATION,
             },
+            keeper: 0,
         });
     }
 

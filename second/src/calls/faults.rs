@@ -17,7 +17,7 @@ pub fn is_possible(reason: Reason, case: &Case) -> bool {
         4 => case.row.page.is_some(),
         6 | 9 => case.is_strict(),
         7 | 8 | 10..=13 => !case.is_open(),
-        14 => case.is_strict() && (case.is_master() || case.unit.mask() != 0xffff),
+        14 => case.is_strict() && (case.is_master() || case.keeper.keys.mask() != 0xffff),
         15 => case.is_strict() && !case.versions().is_empty(),
         16 => case.row.code == codes::OUT,
         17 => case.inherent() == Some(17),
@@ -248,13 +248,14 @@ fn sealed_with_another(
     token: &[u8],
     rng: &mut Rng,
 ) -> [u8; 20] {
-    let unit = &case.unit;
+    let set = &case.keeper.keys;
     let right = case.key(wrapping.descriptor[0] & 0x0f);
-    let mut keys = vec![unit.master.authentication, unit.master.generation];
+    let mut keys = vec![set.master.authentication, set.master.generation];
+    // A sharer's own key bytes are zero.
     keys.extend([[0; 20], [0xff; 20]]);
-    keys.extend(unit.working.iter().flatten());
+    keys.extend(set.working.iter().flatten());
     keys.extend(
-        unit.next
+        set.next
             .iter()
             .flat_map(|next| [next.authentication, next.generation]),
     );

@@ -74,7 +74,7 @@ impl<W: Watch> World<W> {
 
     /// One of the life of keys: set, exchange, exchange again, change. Not
     /// all are GOOD, as what was parked may have changed the keys.
-    fn key_command(&mut self, unit: u32, turn: usize) {
+    pub fn key_command(&mut self, unit: u32, turn: usize) {
         let version = self.rng.below(16) as u8;
         match turn % 7 {
             1 => self.exchange(unit),

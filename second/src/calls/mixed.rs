@@ -111,13 +111,28 @@ impl<W: Watch> World<W> {
             _ => {}
         }
         let (method, tag) = (self.rng.pick(&[0, 1]), self.rng.pick(&[0, 7, 8]));
-        self.fresh(unit, method, tag);
+        let keeper = self.some_keeper(unit);
+        self.fresh_with(unit, method, tag, keeper);
         let version = self.rng.below(16) as u8;
         self.set_key(unit, version);
     }
 
-    /// A build of which a part of the unit or the method alone would be right.
+    /// 0 or, among sharers, mostly what names a unit that can keep the unit's
+    /// keys, if there is one.
+    fn some_keeper(&mut self, unit: u32) -> u32 {
+        if !self.sharing {
+            return 0;
+        }
+        let right = self.fields_that(unit, |fault| fault.is_none());
+        self.rng.pick(&right)
+    }
+
+    /// A build of which a part of the unit or the method alone would be right;
+    /// among sharers, one with any fault.
     fn odd_build(&mut self, unit: u32) {
+        if self.sharing {
+            return self.any_faulty_builds(1);
+        }
         let more = self.rng.pick(&[8, 1 << 8, 1 << 16, 1 << 31]);
         let method = self.rng.pick(&[2, 3, 1 << 8, 1 << 16, u32::MAX]);
         let (unit, method) = self.rng.pick(&[(unit + more, 1), (unit, method)]);

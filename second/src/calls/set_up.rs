@@ -33,8 +33,13 @@ fn master_key(rng: &mut Rng) -> Key {
 }
 
 impl<W: Watch> World<W> {
-    /// Builds a unit with keys and an identifier by chance.
+    /// Builds a unit of its own keys, which are by chance like its identifier.
     pub fn fresh(&mut self, unit: u32, method: u32, tag: u32) -> Answer {
+        self.fresh_with(unit, method, tag, 0)
+    }
+
+    /// The same with this value for bytes 432-433.
+    pub fn fresh_with(&mut self, unit: u32, method: u32, tag: u32, keeper: u32) -> Answer {
         let rng = &mut self.rng;
         let asked = Build {
             unit,
@@ -45,12 +50,14 @@ impl<W: Watch> World<W> {
                 authentication: master_key(rng),
                 generation: master_key(rng),
             },
+            keeper,
         };
         self.build(asked)
     }
 
-    /// Makes eight units and sixteen free slots.
+    /// Makes eight units, of which none is a sharer, and sixteen free slots.
     pub fn set_up(&mut self) {
+        self.sharing = false;
         self.reset();
         for (unit, (method, tag, keys, pending)) in (0..).zip(STANDINGS) {
             let tag = match tag {

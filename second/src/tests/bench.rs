@@ -52,6 +52,7 @@ impl Bench {
             tag,
             identifier: ID,
             master,
+            keeper: 0,
         }))
     }
 
@@ -114,6 +115,24 @@ impl Bench {
     pub fn unit_record(&self, unit: u32) -> Vec<u8> {
         self.tables.units[512 * unit as usize..][..512].to_vec()
     }
+}
+
+/// The record whose bytes 0-491 are zero but for these.
+pub fn record(parts: &[(usize, &[u8])]) -> Vec<u8> {
+    let mut bytes = vec![0; 492];
+    for (at, part) in parts {
+        bytes[*at..][..part.len()].copy_from_slice(part);
+    }
+    let check = sha1(&bytes);
+    [&bytes[..], &check].concat()
+}
+
+/// The next authentication and generation key after this exchange, by hand.
+pub fn next_keys(generation: &[u8], agreed: u8) -> ([u8; 20], [u8; 20]) {
+    let mut seed = [vec![agreed; 256], ID.to_vec()].concat();
+    let next_generation = hmac_sha1(generation, &seed);
+    seed[271] ^= 0x01;
+    (hmac_sha1(generation, &seed), next_generation)
 }
 
 /// The working key that `set_key` sets.

@@ -67,6 +67,7 @@ fn h1_in_build_abort_and_reset() {
             authentication: AUTH,
             generation: GEN,
         },
+        keeper: 9,
     };
     for length in [0, 512, 4095, 4097, 8191, 8192, 8193] {
         let mut bytes = vec![0x55; length];

@@ -5,17 +5,6 @@ use super::bench::*;
 use crate::answer::Answer;
 use crate::hmac::hmac_sha1;
 use crate::lines::Line;
-use crate::sha1::sha1;
-
-/// The record whose bytes 0-491 are zero but for these.
-fn record(parts: &[(usize, &[u8])]) -> Vec<u8> {
-    let mut bytes = vec![0; 492];
-    for (at, part) in parts {
-        bytes[*at..][..part.len()].copy_from_slice(part);
-    }
-    let check = sha1(&bytes);
-    [&bytes[..], &check].concat()
-}
 
 /// The start of every unit record here, up to the mask.
 fn head(unit: u8, method: u8, mask: [u8; 2]) -> [u8; 8] {
@@ -117,14 +106,6 @@ fn set_key() {
     let key = hmac_sha1(&GEN, &page[8..]);
     assert_eq!(bench.unit_record(CAPKEY)[172..192], key);
     assert_eq!(bench.unit_record(CAPKEY)[6..8], [0x00, 0x08]);
-}
-
-/// The next authentication and generation key after this exchange, by hand.
-fn next_keys(generation: &[u8], agreed: u8) -> ([u8; 20], [u8; 20]) {
-    let mut seed = [vec![agreed; 256], ID.to_vec()].concat();
-    let next_generation = hmac_sha1(generation, &seed);
-    seed[271] ^= 0x01;
-    (hmac_sha1(generation, &seed), next_generation)
 }
 
 #[test]

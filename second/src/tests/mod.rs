@@ -1,5 +1,5 @@
-//! Tests of the engine as a whole, from document 01's text: bytes are laid out
-//! by hand here, so that the engine's own layout is tested as well.
+//! Tests of the engine as a whole, from the text of documents 01 and 02: bytes
+//! are laid out by hand here, so that the engine's own layout is tested as well.
 
 mod bench;
 mod buffers;
@@ -8,4 +8,6 @@ mod examples;
 mod pages;
 mod reasons;
 mod reasons_at_close;
+mod sets;
+mod sharers;
 mod soundness;

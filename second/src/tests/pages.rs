@@ -1,4 +1,5 @@
-//! The pages that SECURITY PROTOCOL IN answers, written out from document 01.
+//! The pages that SECURITY PROTOCOL IN answers, written out from document 01
+//! and, for byte 4 of the Capabilities page, document 02, K4.
 
 use super::bench::*;
 use crate::answer::Answer;
@@ -52,7 +53,7 @@ fn page(code: u8) -> String {
 fn pages() {
     assert_eq!(page(0x00), "0000000c000000010010001100120013");
     assert_eq!(page(0x01), "000100080011001200140015");
-    assert_eq!(page(0x10), "001000105000000200000001000100010001000e");
+    assert_eq!(page(0x10), "00100010d000000200000001000100010001000e");
     assert_eq!(page(0x13), format!("001300ba{}", ROWS.concat()));
     assert_eq!(page(0x11), "001100080000000000070000");
 }

@@ -33,7 +33,7 @@ fn changed(body: &[u8], at: usize, byte: u8) -> Vec<u8> {
 }
 
 /// Bytes that make `full_unit` unsound.
-const BAD_IN_UNIT: [(usize, u8); 18] = [
+const BAD_IN_UNIT: [(usize, u8); 21] = [
     (0, 1),
     (1, 0),
     (1, 2),
@@ -51,6 +51,9 @@ const BAD_IN_UNIT: [(usize, u8); 18] = [
     (132, 1),
     (411, 1),
     (432, 1),
+    (433, 1),
+    (433, 9),
+    (434, 1),
     (491, 1),
 ];
 

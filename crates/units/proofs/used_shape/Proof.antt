@@ -25,14 +25,17 @@ are-zeros-requires c κs = search needs
 or-requires : tie.Need-or-requires
 or-requires c κs = search needs
 
-keys-zero-requires : tie.Need-keys-zero-requires
-keys-zero-requires c κs = search needs
+keeper-shape-requires : tie.Need-keeper-shape-requires
+keeper-shape-requires c κs = search needs
 
 are-zeros-requires-2 : tie.Need-are-zeros-requires-2
 are-zeros-requires-2 c κs = search needs
 
 and-requires : tie.Need-and-requires
 and-requires c κs = search needs
+
+keys-zero-requires : tie.Need-keys-zero-requires
+keys-zero-requires c κs = search needs
 
 and-requires-2 : tie.Need-and-requires-2
 and-requires-2 c κs = search needs
@@ -49,26 +52,32 @@ and-requires-5 c κs = search needs
 and-requires-6 : tie.Need-and-requires-6
 and-requires-6 c κs = search needs
 
+and-requires-7 : tie.Need-and-requires-7
+and-requires-7 c κs = search needs
+
 returns : tie.Need-returns
 unfolding usedShape layout unitNumber nextPairZero unnamedZero
 returns c =
-    let k = c .before .before .before .before .before .before in
-    let f = k .before .before .before .before in
+    let s = c .before .before .before .before .before in
+    let k = s .before .before .before in
+    let f = k .before .before .before in
     simp (
-      c .and6 .ensures,
-      c .before .and5 .ensures,
-      c .before .before .and4 .ensures,
-      c .before .before .before .and3 .ensures,
-      c .before .before .before .before .and2 .ensures,
-      c .before .before .before .before .before .and .ensures,
+      c .and7 .ensures,
+      c .before .and6 .ensures,
+      c .before .before .and5 .ensures,
+      c .before .before .before .and4 .ensures,
+      c .before .before .before .before .and3 .ensures,
+      s .and2 .ensures,
+      s .before .keys-zero .ensures,
+      s .before .before .and .ensures,
       k .are-zeros2 .ensures,
-      k .before .keys-zero .ensures,
+      k .before .keeper-shape .ensures,
       k .before .before .or .ensures,
-      k .before .before .before .are-zeros .ensures,
-      f .step-of .ensures,
-      f .before .method-of .ensures,
-      f .before .before .before .be162 .ensures,
-      f .before .before .before .before .be16 .ensures,
+      f .are-zeros .ensures,
+      f .before .step-of .ensures,
+      f .before .before .method-of .ensures,
+      f .before .before .before .before .be162 .ensures,
+      f .before .before .before .before .before .be16 .ensures,
     )
 
 pub used-shape-spec : {M : Type 1} → statement M
@@ -82,12 +91,14 @@ used-shape-spec =
     step-of-requires
     are-zeros-requires
     or-requires
-    keys-zero-requires
+    keeper-shape-requires
     are-zeros-requires-2
     and-requires
+    keys-zero-requires
     and-requires-2
     and-requires-3
     and-requires-4
     and-requires-5
     and-requires-6
+    and-requires-7
     returns)

@@ -15,6 +15,7 @@ extern "C" {
         identifier: *const u8,
         auth: *const u8,
         gen: *const u8,
+        keeper: u32,
     ) -> u64;
     fn nn_open(
         units: *mut u8,
@@ -83,6 +84,7 @@ fn build(units: &mut [u8], asked: &Build) -> u64 {
             asked.identifier.as_ptr(),
             asked.master.authentication.as_ptr(),
             asked.master.generation.as_ptr(),
+            asked.keeper,
         )
     }
 }

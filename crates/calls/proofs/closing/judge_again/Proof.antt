@@ -44,7 +44,7 @@ finish-requires c κs =
     let none = sym (c2 .close-reason .ensures) ∙ c1 .if1 .taken in
     let p = open-passed s command token (a .clock) (close-none s command token (a .list .now) (a .clock) none .0) in
     let carries = ap (λ (x : List ℕ). dataOut (codeOf x)) (c6 .command-of .ensures) ∙ held-code (a .rec .now) (c11 .pre .2) in
-    (c11 .pre .0, p .small, c4 .facts-of .ensures, not-replied command carries, λ t. list-passed s command token (a .list .now) (a .clock) none t)
+    (c11 .pre .0, p .small, p .used, c4 .facts-of .ensures, not-replied command carries, λ t. list-passed s command token (a .list .now) (a .clock) none t)
 
 same-length : tie.Need-same-length
 same-length c = search needs

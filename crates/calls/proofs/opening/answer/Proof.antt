@@ -37,8 +37,8 @@ returns c =
     let c12 = c8 .before .before .before .before in
     let a = c12 .args in
     let s = seen (a .units .now) (a .unit .0) in
-    let asked-for = reply-asked s (a .command .now) (a .facts) _ _ _ (c12 .pre .3) (c3 .be32 .ensures) (c6 .record-of .ensures) (c5 .keys-of .ensures) in
-    answers-page (a .reply .now) s (a .command .now) (c12 .pre .4) _ (c8 .is-replied .ensures) (c7 .if1 .taken) _ _ (c2 .reply .ensures .0 ∙ ap length asked-for)
+    let asked-for = reply-asked s (a .command .now) (a .facts) _ _ _ (c12 .pre .4) (c3 .be32 .ensures) (c6 .record-of .ensures) (c5 .keys-of .ensures) in
+    answers-page (a .reply .now) s (a .command .now) (c12 .pre .5) _ (c8 .is-replied .ensures) (c7 .if1 .taken) _ _ (c2 .reply .ensures .0 ∙ ap length asked-for)
     (c2 .reply .ensures .1 ∙ ap (patch (a .reply .now) 0) asked-for)
 
 returns-2 : tie.Need-returns-2
@@ -46,7 +46,7 @@ returns-2 c =
     let c1 = c .before in
     let c5 = c1 .before .before .before .before in
     let a = c5 .args in
-    answers-run (a .reply .now) (seen (a .units .now) (a .unit .0)) (a .command .now) (c5 .pre .4) _ (c1 .is-replied .ensures) (c .if1 .left)
+    answers-run (a .reply .now) (seen (a .units .now) (a .unit .0)) (a .command .now) (c5 .pre .5) _ (c1 .is-replied .ensures) (c .if1 .left)
 
 pub answer-spec : {M : Type 1} → statement M
 answer-spec =

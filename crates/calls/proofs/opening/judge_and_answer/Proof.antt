@@ -62,7 +62,7 @@ answer-requires c κs =
     let c11 = c5 .before .before .before .before .before .before in
     let a = c11 .args in
     let p = open-passed (seen (a .units .now) (a .unit .0)) (a .command .now) (a .token .now) (a .clock) (sym (c4 .open-reason .ensures) ∙ c3 .if1 .taken) in
-    (c11 .pre .2, c11 .pre .0, p .small, c5 .facts-of .ensures, out-code (codeOf (a .command .now)) (sym (c2 .data-out .ensures ∙ ap (λ (f : Facts). dataOut (f .code)) (c5 .facts-of .ensures)) ∙ c1 .if2 .left))
+    (c11 .pre .2, c11 .pre .0, p .small, p .used, c5 .facts-of .ensures, out-code (codeOf (a .command .now)) (sym (c2 .data-out .ensures ∙ ap (λ (f : Facts). dataOut (f .code)) (c5 .facts-of .ensures)) ∙ c1 .if2 .left))
 
 same-length-2 : tie.Need-same-length-2
 same-length-2 c = search needs

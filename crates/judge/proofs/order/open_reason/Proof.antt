@@ -31,7 +31,7 @@ keys-of-requires c κs =
     let a = c6 .args in
     let s = seen (a .units .now) (a .unit .0) in
     let p = earlier-passed s (a .command .now) _ (c2 .earlier-reason .ensures) (c1 .if1 .taken) in
-    (c6 .pre .0, p .0)
+    (c6 .pre .0, p .0, p .1)
 
 later-reason-requires : tie.Need-later-reason-requires
 later-reason-requires c κs =
@@ -43,7 +43,7 @@ later-reason-requires c κs =
     let s = seen (a .units .now) (a .unit .0) in
     let p = earlier-passed s (a .command .now) _ (c3 .earlier-reason .ensures) (c2 .if1 .taken) in (
       ap length (c1 .record-of .ensures) ∙ unit-length (a .unit .0) (a .units .now) (c7 .pre .0) (p .0),
-      ap length (c .keys-of .ensures) ∙ key-set-length (a .unit .0) (a .units .now) (c7 .pre .0) (p .0),
+      ap length (c .keys-of .ensures) ∙ key-set-length (a .units .now) (a .unit .0) (p .1) (c7 .pre .0) (p .0),
       p .2,
       c7 .pre .1,
     )
