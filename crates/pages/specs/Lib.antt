@@ -11,4 +11,5 @@ pub mod BitLaws
 pub mod RecordLaws
 pub mod FieldLaws
 pub mod EffectLaws
+pub mod CommuteLaws
 pub mod FrontLaws

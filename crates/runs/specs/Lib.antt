@@ -26,3 +26,6 @@ pub mod HistoryLaws
 pub mod GoodChecked
 pub mod Engineer
 pub mod AfterChange
+pub mod KeySets
+pub mod Shared
+pub mod Apart
