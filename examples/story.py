@@ -200,7 +200,7 @@ def shared_change(key):
 
 
 def main():
-    print("# How a guarded unit is used. Made by examples/story.py; `make demo` shows each line with its answer.")
+    print("# How a guarded unit is used, and how two share keys. Made by examples/story.py; `make demo` shows each line with its answer.")
     key = mac(GEN_KEY, SEED)
     guarded_unit()
     first_key()

@@ -22,7 +22,8 @@
  *   static uint8_t slots[NN_SLOTS_LEN] = NN_FRESH_SLOTS;
  *   static uint8_t reply[NN_REPLY_LEN];
  *
- * Records keep their check with them, so units and slots may be saved and brought back as bytes.
+ * Records keep their check with them, so the tables may be saved and brought back as bytes: a unit table as a whole, since a unit that
+ * shares keys is sound only beside its keeper, and with it the keys and tags of that time.
  */
 #ifndef NECTARNOOK_H
 #define NECTARNOOK_H
@@ -148,17 +149,18 @@ extern "C" {
  *          H5  unit above 7 or method above 1; keeper above 8, or one more than the unit's own number, or that of a unit whose record is
  *              not sound, used and with keys of its own
  *          A0  with count 0
- * Leaves:  with A0 the unit's record is new, whatever stood there: no working key is valid and no seed exchange is pending; the other
- *          records are kept. With H1 and H5 every byte is kept.
+ * Leaves:  with A0 the unit's record is new, whatever stood there, with no working key and no seed exchange of its own (a sharer has its
+ *          keeper's); the other records are kept. With H1 and H5 every byte is kept.
  *
- * Units that share keys. A sharer has no keys: those given here are ignored, and its record holds zeros. Keys, the mask of valid versions
- * and a pending seed exchange are its keeper's: SECURITY PROTOCOL OUT pages Set Key, Seed Exchange and Change at a sharer act on the
- * keeper's record, S is made with the keeper's identifier, and page 0011h shows the keeper's mask. So a key that is set at one unit of the
- * set is there for all, and a Change at one ends the working keys of all. Method, policy access tag and identifier are each unit's own,
- * and Set Attributes changes its unit alone. Who keeps whose keys is fixed until a record is built anew.
+ * Units that share keys. A sharer has no keys: those given here are ignored, though the pointers must be good, and its record holds zeros.
+ * Keys, the mask of valid versions and a pending seed exchange are its keeper's: SECURITY PROTOCOL OUT pages Set Key, Seed Exchange and
+ * Change at a sharer act on the keeper's record, S is made with the keeper's identifier, and page 0011h shows the keeper's mask. So a key
+ * that is set at one unit of the set is there for all, and a Change at one ends the working keys of all. Method, policy access tag and
+ * identifier are each unit's own, and Set Attributes changes its unit alone. Give each unit of a set an identifier of its own: under one
+ * key set that is what keeps a capability for one unit from holding at another. Who keeps whose keys is fixed until a record is built anew.
  *
  * Take care when a keeper is built anew: with keys of its own, its sharers share the new ones from then on; as a sharer itself, it leaves
- * every unit that shared its keys unsound (1Bh), until it is built with keys of its own again or they are.
+ * every unit that shared its keys unsound (1Bh), until it is built with keys of its own again or they are built anew.
  */
 uint64_t nn_build(uint8_t *units, size_t units_len, uint32_t unit, uint32_t method, uint32_t tag,
                   const uint8_t identifier[NN_IDENTIFIER_LEN], const uint8_t auth_key[NN_KEY_LEN],

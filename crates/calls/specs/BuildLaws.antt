@@ -1,5 +1,5 @@
--- Laws of build: case by case; of a build that was answered A0, that the record stands at its place as it was asked for, sound and used, and
--- every other record keeps its bytes; and what becomes of the sharers of a unit that is built anew.
+-- Laws of build: case by case; of a build that was answered A0, that the record stands at its place as it was asked for, sound and used,
+-- and every other record keeps its bytes; and what becomes of the sharers of a unit that is built anew.
 use mathlib.Core.Path.{_≡_, refl, sym, ap, _∙_}
 use mathlib.Core.Bool.{Bool, true, false, not}
 use mathlib.Core.List.{List}
@@ -179,7 +179,8 @@ module _ (units : List ℕ) (u m t : ℕ) (id auth gen : List ℕ) (k : ℕ) whe
     own-state : unitStateOf u (unitAt u x) ≡ Used
     own-state =
         let hu = asked-for .small in
-        ap (unitStateOf u) build-record ∙ built-used u m t id auth gen k hi ha hg (omega arith) (asked-for .known) ht (right-small units u k (asked-for .right))
+        ap (unitStateOf u) build-record
+        ∙ built-used u m t id auth gen k hi ha hg (omega arith) (asked-for .known) ht (right-small units u k (asked-for .right))
 
     field-here : keeperField (unitAt u x) ≡ k
     field-here = ap (λ (f : Fields). f .keeper) build-fields

@@ -44,7 +44,7 @@ fn is_unsound(s: UnitState) -> bool
     }
 }
 
-// 1 and 1b. This is the one place of a call that hashes the unit's record.
+// 1 and 1b. This is the one place of an open or close that checks the unit's record, and for a sharer its keeper's.
 pub fn unit_reason(units: &[u8], unit: UnitNo) -> u8
     requires { ⌜ length (now units) ≡ 4096 ⌝ }
     ensures { λ r. ⌜ r ≡ first (unitTests (unit .0) (unitState (now (units .entry)) (unit .0))) ⌝ }

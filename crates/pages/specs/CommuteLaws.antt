@@ -48,7 +48,8 @@ module _ (m t : ℕ) where
           let lm : length (bytesOf 2 m) ≡ 2 = bytes-length 2 m in
           sym (patch-swap l 4 (bytesOf 2 m) a ys (omega arith) (omega arith))
 
-      swap-tag : (l : List ℕ) → length l ≡ 512 → (a + n ≤ 8) ⊎ (12 ≤ a) → patch (patch l a ys) 8 (bytesOf 4 t) ≡ patch (patch l 8 (bytesOf 4 t)) a ys
+      swap-tag : (l : List ℕ) → length l ≡ 512 → (a + n ≤ 8) ⊎ (12 ≤ a)
+          → patch (patch l a ys) 8 (bytesOf 4 t) ≡ patch (patch l 8 (bytesOf 4 t)) a ys
       swap-tag l full (inl h) =
           let lt : length (bytesOf 4 t) ≡ 4 = bytes-length 4 t in
           patch-swap l a ys 8 (bytesOf 4 t) (omega arith) (omega arith)
@@ -88,7 +89,8 @@ module _ (m t : ℕ) where
       }
 
   -- what the check is made over is the same either way
-  commutes : (f : List ℕ → List ℕ) → Passes f → (rec : List ℕ) → length rec ≡ 512 → attributesSet m t (seal (f rec)) ≡ seal (f (attributesSet m t rec))
+  commutes : (f : List ℕ → List ℕ) → Passes f → (rec : List ℕ) → length rec ≡ 512
+      → attributesSet m t (seal (f rec)) ≡ seal (f (attributesSet m t rec))
   unfolding attributesSet with
   commutes f p rec full =
       let lf = p .long rec full in
@@ -115,7 +117,8 @@ module _ (m t : ℕ) where
         (patch-passes (112 + 20 * v) key 20 (mac-length (genKey rec) s) (omega arith) (omega arith) (inr (omega arith))))
         rec full)
 
-    same-next-pair : (value : List ℕ) → (nextAuth value (attributesSet m t rec) ≡ nextAuth value rec) × (nextGen value (attributesSet m t rec) ≡ nextGen value rec)
+    same-next-pair : (value : List ℕ)
+        → (nextAuth value (attributesSet m t rec) ≡ nextAuth value rec) × (nextGen value (attributesSet m t rec) ≡ nextGen value rec)
     unfolding nextAuth nextGen
     same-next-pair value =
         let a = attributes-master m t rec full in

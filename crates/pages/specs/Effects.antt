@@ -31,8 +31,8 @@ lastFlipped [] = []
 lastFlipped (x ∷ []) = flipped x ∷ []
 lastFlipped (x ∷ y ∷ ys) = x ∷ lastFlipped (y ∷ ys)
 
--- S is the agreed value then the identifier of the unit that keeps the keys (02, K4); next generation key is HMAC under the current generation master key over S, next
--- authentication key the same over S with the lowest bit of its last byte inverted
+-- S is the agreed value then the identifier of the unit that keeps the keys (02, K4); next generation key is HMAC under the current
+-- generation master key over S, next authentication key the same over S with the lowest bit of its last byte inverted
 unfoldable pub nextGen : List ℕ → List ℕ → List ℕ
 nextGen value rec = hmac bySha1 (genKey rec) (value ++ identifier rec)
 

@@ -75,7 +75,7 @@ fn flip(x: u8) -> u8
     if x % 2 == 1 { x - 1 } else { x + 1 }
 }
 
-// The unit identifier with the lowest bit of its last byte inverted.
+// The identifier of the unit that keeps the keys, with the lowest bit of its last byte inverted.
 fn flipped_identifier(keys: &[u8]) -> [u8; 16]
     requires { ⌜ length (now keys) ≡ 512 ⌝ }
     ensures { λ r. ⌜ r ≡ lastFlipped (identifier (now (keys .entry))) ⌝ }

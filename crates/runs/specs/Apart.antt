@@ -155,7 +155,8 @@ module _ (us : List ℕ) (full : length us ≡ 4096) (w m t : ℕ) (at : w < 8) 
     made-long = long (unitAt p us) (unit-length p us full room)
 
     apart-by : (b : Bool) → eqb p w ≡ b
-        → patch (attributed w m t us) (p * 512) (f (unitAt p (attributed w m t us))) ≡ attributed w m t (patch us (p * 512) (f (unitAt p us)))
+        → patch (attributed w m t us) (p * 512) (f (unitAt p (attributed w m t us)))
+        ≡ attributed w m t (patch us (p * 512) (f (unitAt p us)))
     unfolding attributed own
     apart-by true e =
         let q : p ≡ w = eqb-true p w e in
@@ -251,10 +252,13 @@ module _ (us : List ℕ) (w : ℕ) (d : List ℕ) (o : Obeys us w setAttributes 
     unfolding keySetOf
     obeyed-by page e h true q =
         rw next-is
-        (made-apart us (o .full) w m t (o .small) u (h .small) (attributesSet (newMethod e) (newTag e)) (λ l long. attributes-length (newMethod e) (newTag e) l long) (λ z. absurd (other (sym z))))
+        (made-apart us (o .full) w m t (o .small) u (h .small) (attributesSet (newMethod e) (newTag e))
+        (λ l long. attributes-length (newMethod e) (newTag e) l long) (λ z. absurd (other (sym z))))
     obeyed-by page e h false q =
         rw (keeper-kept, next-is)
-        (made-apart us (o .full) w m t (o .small) (keeperOf us u) (keeper-small us u (h .used) (h .small)) (newKeys page e) (λ l long. new-length page e l (h .right) long) (λ z. new-commutes m t (unitAt w us) (unit-length w us (o .full) (o .small)) page e (h .right)))
+        (made-apart us (o .full) w m t (o .small) (keeperOf us u) (keeper-small us u (h .used) (h .small)) (newKeys page e)
+        (λ l long. new-length page e l (h .right) long)
+        (λ z. new-commutes m t (unitAt w us) (unit-length w us (o .full) (o .small)) page e (h .right)))
 
     obeyed : (page : ℕ) (e : List ℕ) → Obeys us u page e
         → laid next u (madeBy (seen next u) page e) ≡ attributed w m t (laid us u (madeBy (seen us u) page e))
@@ -268,11 +272,15 @@ module _ (us : List ℕ) (w : ℕ) (d : List ℕ) (o : Obeys us w setAttributes 
 
     answer-kept : whole next k e clock .answer ≡ whole us k e clock .answer
     unfolding whole
-    answer-kept = rw reason-kept (told-judged (seen us (k .unit)) (seen next (k .unit)) (sight (k .unit) other) (k .command) e (wholeReason us k e clock) .0)
+    answer-kept =
+        rw reason-kept
+        (told-judged (seen us (k .unit)) (seen next (k .unit)) (sight (k .unit) other) (k .command) e (wholeReason us k e clock) .0)
 
     written-kept : whole next k e clock .written ≡ whole us k e clock .written
     unfolding whole
-    written-kept = rw reason-kept (told-judged (seen us (k .unit)) (seen next (k .unit)) (sight (k .unit) other) (k .command) e (wholeReason us k e clock) .1)
+    written-kept =
+        rw reason-kept
+        (told-judged (seen us (k .unit)) (seen next (k .unit)) (sight (k .unit) other) (k .command) e (wholeReason us k e clock) .1)
 
     laid-by : (b : Bool) → both (eqb (wholeReason us k e clock) 0) (eqb (codeOf (k .command)) protocolOut) ≡ b
         → laid next (k .unit) (pick b (madeBy (seen next (k .unit)) (pageOf (k .command)) e) nothing)
@@ -286,7 +294,11 @@ module _ (us : List ℕ) (w : ℕ) (d : List ℕ) (o : Obeys us w setAttributes 
     records-kept : whole next k e clock .units ≡ attributed w m t (whole us k e clock .units)
     unfolding whole
     records-kept =
-        rw (reason-kept, made-is (seen next (k .unit)) (k .command) e (wholeReason us k e clock), made-is (seen us (k .unit)) (k .command) e (wholeReason us k e clock))
+        rw (
+          reason-kept,
+          made-is (seen next (k .unit)) (k .command) e (wholeReason us k e clock),
+          made-is (seen us (k .unit)) (k .command) e (wholeReason us k e clock),
+        )
         (laid-by (both (eqb (wholeReason us k e clock) 0) (eqb (codeOf (k .command)) protocolOut)) refl)
 
 -- ---- the theorem, of one whole command: after a GOOD Set Attributes with the list d at unit w, any whole command at another unit has the

@@ -18,8 +18,8 @@ blanks (suc n) = blankRecord ++ blanks n
 abbrev pub fresh : List ℕ
 fresh = blanks 8
 
--- what a build is asked for; the lengths are what the call's types say: a tag of four bytes, an identifier of 16 and keys of 20. The keeper is
--- the field's value: zero for own keys, or one more than a keeper's number
+-- what a build is asked for; the lengths are what the call's types say: a tag of four bytes, an identifier of 16 and keys of 20. The keeper
+-- is the field's value: zero for own keys, or one more than a keeper's number
 pub record Asking : Type 0 where
   pub unit : ℕ
   pub method : ℕ

@@ -50,7 +50,8 @@ same-history units u w e k [] = refl
 same-history units u w e k (x ∷ xs) =
     rw e (same-history units u w e (pick (isKeyCommand units w x) (keyCommand (pageOf (x .what .command)) (x .sent) k) k) xs)
 
-pub one-history : (t : Tables) (es : List Event) (u w : ℕ) → keeperOf (t .units) u ≡ keeperOf (t .units) w → keysBefore t es u ≡ keysBefore t es w
+pub one-history : (t : Tables) (es : List Event) (u w : ℕ) → keeperOf (t .units) u ≡ keeperOf (t .units) w
+    → keysBefore t es u ≡ keysBefore t es w
 unfolding keySetOf
 one-history t es u w e =
     same-history (t .units) u w e (startKeys (keySetOf (t .units) u)) (dones (starts (t .slots)) es)
@@ -162,6 +163,8 @@ said-accepted t es m sound ran x clock small used legal protocol rules key said 
     let s = seen (m .units) (x .unit) in
     let c = x .command in
     let v = keyVersion (descriptorOf c) in
-    let q = said-key (s .keys) (keysBefore t es (x .unit)) (history-said t es m sound ran (x .unit)) (isMaster (needFor c)) (isChange c) v (version-small (descriptorOf c)) key said in
+    let h = version-small (descriptorOf c) in
+    let says = history-said t es m sound ran (x .unit) in
+    let q = said-key (s .keys) (keysBefore t es (x .unit)) says (isMaster (needFor c)) (isChange c) v h key said in
     accepted s c (x .token) clock small used legal protocol rules (q .0)
     (subst (λ (z : List ℕ). Checked (s .own) z c (x .token) clock) (sym (q .1)) checked) page

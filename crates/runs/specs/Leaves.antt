@@ -1,4 +1,5 @@
--- What each answer leaves, as document 01's table has it ("What a call gets and gives"): of each call, by the answer's number.
+-- What each answer leaves, as document 01's table has it ("What a call gets and gives"), and 02 for keys that are kept elsewhere (K4): of
+-- each call, by the answer's number.
 use mathlib.Core.Path.{_≡_, refl, sym, ap, ap₂, _∙_, subst}
 use mathlib.Core.Bool.{true, false}
 use mathlib.Core.List.{List, []}
@@ -49,7 +50,7 @@ pub record LeftByOpen (l m : Lent) (a : Answer) : Type 0 where
   pub reply : drop (countIn a) (m .reply) ≡ drop (countIn a) (l .reply)
 
 -- a close of slot s: the reply is kept, and A0 says count 0; A0, A2 and A3 free the slot, and no other slot changes; the unit table is kept
--- but under A0, which may make the record of the slot's unit anew, or that of its keeper; one of the two, and no more (Local: `stored-once`)
+-- but under A0, which may make the record of the slot's unit anew, or that of its keeper, and never both (Local: `stored-once`)
 pub record LeftByClose (l m : Lent) (s : ℕ) (a : Answer) : Type 0 where
   pub reply : m .reply ≡ l .reply
   pub count : countIn a ≡ 0

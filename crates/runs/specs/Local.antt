@@ -1,6 +1,6 @@
 -- A whole command is local, then stored: its answer, the bytes that it writes and the record that it makes anew are a function of what it
--- sees of the unit table, and storing is one patch of the table, which changes no byte of a record but the unit's or its keeper's (WholeLaws:
--- `whole-others`).
+-- sees of the unit table, and storing is one patch of the table, which changes no byte of a record but the unit's or its keeper's
+-- (WholeLaws: `whole-others`).
 use mathlib.Core.Path.{_≡_, refl, sym, ap}
 use mathlib.Core.Logic.{_⊎_, inl, inr}
 use mathlib.Core.Bool.{Bool, true, false}
@@ -78,6 +78,7 @@ stored-once us k d clock full =
 pub reads-two : (us vs : List ℕ) (k : Asked) (d : List ℕ) (clock : ℕ) → unitAt (k .unit) us ≡ unitAt (k .unit) vs
     → unitAt (keeperOf us (k .unit)) us ≡ unitAt (keeperOf us (k .unit)) vs
     → (keeperOf us (k .unit) ≡ keeperOf vs (k .unit))
-    × (judged (seen us (k .unit)) (k .command) d (wholeReason us k d clock) ≡ judged (seen vs (k .unit)) (k .command) d (wholeReason vs k d clock))
+    × (judged (seen us (k .unit)) (k .command) d (wholeReason us k d clock)
+    ≡ judged (seen vs (k .unit)) (k .command) d (wholeReason vs k d clock))
 reads-two us vs k d clock own keeper =
     (same-keeper us vs (k .unit) (ap keeperField own), local-judged us vs k d clock (own-seen us vs (k .unit) own keeper))

@@ -1,5 +1,5 @@
--- Several units under one key set (02, K4), by name: in a run who keeps keys never moves; a key that is set at one unit is there for all that
--- share the set, and a Change at any of them ends the working keys of all.
+-- Several units under one key set (02, K4), by name: in a run who keeps keys never moves; a key that is set at one unit is there for all
+-- that share the set, and a Change at any of them ends the working keys of all.
 use mathlib.Core.Path.{_≡_, refl, sym, ap, ap₂, _∙_}
 use mathlib.Core.Bool.{Bool, true, false}
 use mathlib.Core.Option.{Option, none, some}
@@ -53,8 +53,8 @@ module _ (t : Tables) (es : List Event) (m : Tables) (sound : SoundTables t) (ra
   pub keeper-fixed : (u : ℕ) → keeperOf (m .units) u ≡ keeperOf (t .units) u
   keeper-fixed u = same-keeper (m .units) (t .units) u (field-fixed u)
 
-  -- ---- a GOOD Change at a unit of u's set, its keeper or any sharer, and no GOOD Set Key of version v at any of them since: the version is
-  -- not valid at u
+  -- ---- a GOOD Change at a unit of u's set, its keeper or any sharer, and no GOOD Set Key of version v at any of them since: the version
+  -- is not valid at u
 
   pub change-ends : (u v : ℕ) → v < 16 → (xs : List Done) (y : Done) (ys : List Done) → dones (starts (t .slots)) es ≡ xs ++ (y ∷ ys)
       → isKeyCommand (t .units) u y ≡ true → pageOf (y .what .command) ≡ changeMaster → NoneSets (t .units) u v ys
@@ -105,8 +105,8 @@ waits-formed : (t : Tables) (es : List Event) (m : Tables) → SoundTables t →
     → ledgerOf (starts (t .slots)) es s ≡ some x → isMalformed a ≡ false
 unfolding closeExpected
 waits-formed t es m sound ran s d clock reply a r n meets small long x waits =
-    let answered : whole (m .units) x d clock .answer ≡ a =
-    sym (rw (eq-eqb (length reply) 512 long, le-leb s 15 (omega arith), waits) at (each-step t es m sound ran (closes s d clock reply) a r n meets .answer)) in
+    let stepped = each-step t es m sound ran (closes s d clock reply) a r n meets .answer in
+    let answered : whole (m .units) x d clock .answer ≡ a = sym (rw (eq-eqb (length reply) 512 long, le-leb s 15 (omega arith), waits) at stepped) in
     final-formed (paperOf a .no) (ap isFinal (sym answered) ∙ whole-final (m .units) x d clock)
 
 pub parked-ended : (t : Tables) (es : List Event) (m : Tables) (sound : SoundTables t) (ran : Ran t es m) (s : ℕ) (d : List ℕ) (clock : ℕ)
@@ -119,5 +119,6 @@ pub parked-ended : (t : Tables) (es : List Event) (m : Tables) (sound : SoundTab
     → NoneSets (t .units) (x .unit) (keyVersion (descriptorOf (x .command))) ys
     → isRefused a ≡ true
 parked-ended t es m sound ran s d clock reply a r n meets small long x waits xs y ys capkey guarded working split good page unset =
-    ended-by-change t es m sound ran (closes s d clock reply) a r n meets refl (waits-formed t es m sound ran s d clock reply a r n meets small long x waits) x waits xs y ys
+    let formed = waits-formed t es m sound ran s d clock reply a r n meets small long x waits in
+    ended-by-change t es m sound ran (closes s d clock reply) a r n meets refl formed x waits xs y ys
     (capkey-rules (unitAt (x .unit) (m .units)) (x .command) capkey) guarded working split good page unset

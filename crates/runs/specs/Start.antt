@@ -86,7 +86,8 @@ module _ (us : List ℕ) (b : Asking) (next : List ℕ) (good : leaves (Good 0) 
       build-apart us (b .unit) (b .method) (b .tag) (b .identifier) (b .auth) (b .generation) (b .keeper) next good
       (b .tag-fits) (b .identifier-16) (b .auth-20) (b .generation-20)
 
-  shared-built : (v : ℕ) → (b .unit ≡ v → ⊥) → b .keeper ≡ 0 → keeperOf us v ≡ b .unit → unitStateOf v (unitAt v us) ≡ Used → unitState next v ≡ Used
+  shared-built : (v : ℕ) → (b .unit ≡ v → ⊥) → b .keeper ≡ 0 → keeperOf us v ≡ b .unit → unitStateOf v (unitAt v us) ≡ Used
+      → unitState next v ≡ Used
   shared-built v ne own near used =
       build-shared us (b .unit) (b .method) (b .tag) (b .identifier) (b .auth) (b .generation) (b .keeper) next good
       (b .tag-fits) (b .identifier-16) (b .auth-20) (b .generation-20) v ne own near used .0
@@ -106,7 +107,8 @@ module _ (us : List ℕ) (b : Asking) (next : List ℕ) (good : leaves (Good 0) 
   sound-built : LosesNone us b → SoundUnits us → SoundUnits next
   sound-built loses sound u h = by-unit (eqb (b .unit) u) refl
     where
-      others : (b .unit ≡ u → ⊥) → (c d : Bool) → eqb (keeperOf us u) (b .unit) ≡ c → eqb (b .keeper) 0 ≡ d → isUnsound (unitState next u) ≡ false
+      others : (b .unit ≡ u → ⊥) → (c d : Bool) → eqb (keeperOf us u) (b .unit) ≡ c → eqb (b .keeper) 0 ≡ d
+          → isUnsound (unitState next u) ≡ false
       others ne false d e f = ap isUnsound (apart-built u ne (eqb-false (keeperOf us u) (b .unit) e)) ∙ sound u h
       others ne true true e f =
           let near = eqb-true (keeperOf us u) (b .unit) e in
@@ -182,7 +184,9 @@ module _ (a b : Asking) (ua : a .unit ≡ 0) (ma : a .method ≤ 1) (ka : a .kee
     two-good =
         build-good one (b .unit) (b .method) (b .tag) (b .identifier) (b .auth) (b .generation) (b .keeper)
         (length-built fresh a one one-good) (omega arith) mb true
-        (keeper-other one (b .unit) (b .keeper) (λ z. omega arith) (omega arith) (λ z. omega arith) true (sym (ap (λ (x : ℕ). keepsKeys one (x - 1)) kb ∙ one-keeps))) refl two refl
+        (keeper-other one (b .unit) (b .keeper) (λ z. omega arith) (omega arith) (λ z. omega arith) true
+        (sym (ap (λ (x : ℕ). keepsKeys one (x - 1)) kb ∙ one-keeps)))
+        refl two refl
 
     -- nobody names unit 1 yet
     loses-none : LosesNone one b

@@ -1,4 +1,4 @@
-// The fields of a unit's record (document 01, "Records of 512 bytes", Unit): where each stands, how it is read, and how it is written.
+// The fields of a unit's record (document 01, "Records of 512 bytes", Unit; 02, K4): where each stands, how it is read and how written.
 use model::KeyVersion;
 use model::UnitNo;
 ghost use mathlib.Core.Path.{_≡_};
@@ -41,6 +41,8 @@ pub const WORKING_KEYS: usize = 112;
 pub const KEEPER: usize = 432;
 
 pub const UNNAMED: usize = 434;
+
+pub const END: usize = 512;
 
 // ---- read
 

@@ -2,6 +2,7 @@
 mod fields;
 
 use fields::AUTH_KEY;
+use fields::END;
 pub use fields::Key;
 use fields::LAYOUT;
 use fields::NEXT_AUTH_KEY;
@@ -96,15 +97,17 @@ fn used_shape(rec: &[u8], place: UnitNo) -> bool
     )
 }
 
-// The state of a record at its place, by its own bytes. An unused one is found without a hash.
+// The state of a record at its place, by its own bytes. An unused one is found without a hash. The slice of all its bytes has a length that
+// the compiler knows, so that it makes the looks for zeros wide.
 pub fn state_of(rec: &[u8], place: UnitNo) -> UnitState
     requires { ⌜ length (now rec) ≡ 512 ⌝ }
     ensures { λ r. ⌜ r ≡ unitStateOf (place .0) (now (rec .entry)) ⌝ }
 {
-    if seal::is_blank(rec) {
+    let all = &rec[LAYOUT..END];
+    if seal::is_blank(all) {
         return UnitState::Unused;
     }
-    if choice::and(used_shape(rec, place), seal::is_checked(rec)) {
+    if choice::and(used_shape(all, place), seal::is_checked(all)) {
         return UnitState::Used;
     }
     UnitState::Unsound

@@ -15,7 +15,8 @@ keeper-field-of-requires : tie.Need-keeper-field-of-requires
 keeper-field-of-requires c κs = search needs
 
 -- what is the keeper of a used unit is small
-small : (s : tie.Start) (k : ℕ) → k ≡ keeperOf (now (s .args .units)) (s .args .unit .0) → (k ≡ keeperOf (now (s .args .units)) (s .args .unit .0)) × (k < 8)
+small : (s : tie.Start) (k : ℕ) → k ≡ keeperOf (now (s .args .units)) (s .args .unit .0)
+    → (k ≡ keeperOf (now (s .args .units)) (s .args .unit .0)) × (k < 8)
 small s k e =
     (e, subst (λ (u : ℕ). u < 8) (sym e) (keeper-small (now (s .args .units)) (s .args .unit .0) (s .pre .2) (s .pre .1)))
 
