@@ -213,7 +213,7 @@ used-record u rec full small e =
 -- ---- a unit as it is built
 
 -- the numbers at the front of a built unit, and its fields up to the next pair, where zeros begin
-unfoldable pub builtNumbers : ℕ → ℕ → ℕ → List ℕ
+abbrev builtNumbers : ℕ → ℕ → ℕ → List ℕ
 builtNumbers u m t = bytesOf 2 1 ++ (bytesOf 2 u ++ (bytesOf 2 m ++ (bytesOf 2 0 ++ (bytesOf 4 t ++ bytesOf 4 0))))
 
 unfoldable builtBody : ℕ → ℕ → ℕ → List ℕ → List ℕ → List ℕ → List ℕ
@@ -235,7 +235,7 @@ module _ (u m t : ℕ) (id auth gen : List ℕ) (k : ℕ) (hi : length id ≡ 16
   front = builtBody u m t id (ownKey k auth) (ownKey k gen)
 
   front-length : length front ≡ 72
-  unfolding front builtBody builtNumbers
+  unfolding front builtBody
   front-length =
       let a = own-key-length k auth ha in
       let g = own-key-length k gen hg in
@@ -243,7 +243,7 @@ module _ (u m t : ℕ) (id auth gen : List ℕ) (k : ℕ) (hi : length id ≡ 16
 
   -- the fields of a built unit: the first ones, zeros in the place of all further keys, and whose keys
   built-parts : usedBody (built u m t id auth gen k) ≡ (front ++ replicate 360 0) ++ bytesOf 2 k
-  unfolding usedBody front builtBody builtNumbers
+  unfolding usedBody front builtBody
   built-parts = simp append-assoc
 
   module _ (hu : u < 65536) (hm : m < 65536) (ht : t < 2 ^ 32) (hk : k < 65536) where
@@ -374,7 +374,6 @@ fill {r} {x} {n} k m y s hy h e =
 pub numbers-steps : (u m t : ℕ) (r₀ r₁ r₂ r₃ r₄ r₅ r₆ : List ℕ) → r₀ ≡ blank → r₁ ≡ patch r₀ 0 (bytesOf 2 1)
     → r₂ ≡ patch r₁ 2 (bytesOf 2 u) → r₃ ≡ patch r₂ 4 (bytesOf 2 m) → r₄ ≡ patch r₃ 6 (bytesOf 2 0) → r₅ ≡ patch r₄ 8 (bytesOf 4 t)
     → r₆ ≡ patch r₅ 12 (bytesOf 4 0) → r₆ ≡ patch blank 0 (builtNumbers u m t)
-unfolding builtNumbers
 numbers-steps u m t r₀ r₁ r₂ r₃ r₄ r₅ r₆ e₀ e₁ e₂ e₃ e₄ e₅ e₆ =
     let k₁ : Filled r₁ (bytesOf 2 1) 2 = record { is = e₁ ∙ ap (λ (l : List ℕ). patch l 0 (bytesOf 2 1)) e₀; size = bytes-length 2 1 } in
     let k₂ = fill k₁ 2 (bytesOf 2 u) r₂ (bytes-length 2 u) (omega arith) e₂ in
@@ -388,7 +387,6 @@ numbers-steps u m t r₀ r₁ r₂ r₃ r₄ r₅ r₆ e₀ e₁ e₂ e₃ e₄ 
     regrouped a b c d e f = simp append-assoc
 
 numbers-length : (u m t : ℕ) → length (builtNumbers u m t) ≡ 16
-unfolding builtNumbers
 numbers-length u m t = simp (length-append, bytes-length)
 
 pub built-steps : (u m t : ℕ) (id auth gen : List ℕ) (k : ℕ) (r₀ r₁ r₂ r₃ r₄ : List ℕ) → length id ≡ 16 → length auth ≡ 20

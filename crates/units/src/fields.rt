@@ -12,7 +12,6 @@ ghost use Rattle.units.specs.Unit.{isValid, workingKey, withMethod, with
 ghost use Rattle.units.specs.Unit.{withWorkingKey, withoutNextAndWorking};
 ghost use Rattle.seal.specs.Seal.{blank};
 ghost use Rattle.units.specs.Fields.{usedRecord, ownKey, built};
-ghost use Rattle.units.specs.RoundLaws.{builtNumbers};
 
 pub const LAYOUT: usize = 0;
 
@@ -246,7 +245,7 @@ fn set_own_pair(rec: &mut [u8], keeper: u32, auth_key: [u8; 20], gen_key: [u8; 2
 // The numbers at the front of a record as it is built, and zeros behind them, over whatever stood there.
 fn write_numbers(rec: &mut [u8], unit: UnitNo, method: u32, tag: u32)
     requires { ⌜ length (now rec) ≡ 512 ⌝ }
-    ensures { λ _. ⌜ now (rec .exit) ≡ patch blank 0 (builtNumbers (unit .0) method tag) ⌝ }
+    ensures { λ _. ⌜ now (rec .exit) ≡ patch blank 0 (bytesOf 2 1 ++ (bytesOf 2 (unit .0) ++ (bytesOf 2 method ++ (bytesOf 2 0 ++ (bytesOf 4 tag ++ bytesOf 4 0))))) ⌝ }
 {
     let number = unit.0;
     seal::clear(rec);
