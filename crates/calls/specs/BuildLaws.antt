@@ -119,7 +119,8 @@ module _ (units : List ℕ) (u m t : ℕ) (id auth gen : List ℕ) (k : ℕ) whe
       other b q f = told-apart (isA 0) (Good 0) b (one-table (Good 0) b x units (leaves b units) q refl .0) refl f
 
       by-length : (a b : Bool) → eqb (length units) 4096 ≡ a → both (leb u 7) (both (leb m 1) (rightKeeper units u k)) ≡ b
-          → leaves (Good 0) x ≡ pick a (pick b (leaves (Good 0) (patch units (u * 512) (usedRecord (built u m t id auth gen k)))) (leaves H5 units)) (leaves H1 units)
+          → (let made = leaves (Good 0) (patch units (u * 512) (usedRecord (built u m t id auth gen k))) in
+          leaves (Good 0) x ≡ pick a (pick b made (leaves H5 units)) (leaves H1 units))
           → Asked-for x
       by-length false b ea eb q = absurd (other H1 q refl)
       by-length true false ea eb q = absurd (other H5 q refl)

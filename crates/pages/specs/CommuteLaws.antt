@@ -21,7 +21,8 @@ use Rattle.pages.specs.Out.{newVersion, seed, agreed, wrongList}
 use Rattle.pages.specs.OutLaws.{right-version}
 use Rattle.pages.specs.Effects.{attributesSet, withBit, workingKeySet, nextAuth, nextGen, exchanged, changed, newKeys}
 use Rattle.pages.specs.RecordLaws.{Alike, seal-alike, alike-patch, seal-same}
-use Rattle.pages.specs.EffectLaws.{mac-length, pair-length, auth-length, generation-length, next-auth-length, next-generation-length, attributes-master, attributes-next, attributes-working}
+use Rattle.pages.specs.EffectLaws.{mac-length, pair-length, auth-length, generation-length, next-auth-length, next-generation-length}
+use Rattle.pages.specs.EffectLaws.{attributes-master, attributes-next, attributes-working}
 
 module _ (m t : ℕ) where
   -- method and tag, before the check
@@ -77,7 +78,8 @@ module _ (m t : ℕ) where
         long = patched-long a ys n ly room;
         alike = patched-alike a ys n ly room;
         pass =
-            λ l full. ap (λ (x : List ℕ). patch x 8 (bytesOf 4 t)) (swap-method a ys n ly room behind l full) ∙ swap-tag a ys n ly room behind (patch l 4 (bytesOf 2 m)) (one-long l full) apart;
+            λ l full. ap (λ (x : List ℕ). patch x 8 (bytesOf 4 t)) (swap-method a ys n ly room behind l full)
+            ∙ swap-tag a ys n ly room behind (patch l 4 (bytesOf 2 m)) (one-long l full) apart;
       }
 
   then-passes : (f g : List ℕ → List ℕ) → Passes f → Passes g → Passes (λ l. g (f l))
@@ -100,7 +102,8 @@ module _ (m t : ℕ) where
       seal-same (with (seal (f rec))) (with (f rec)) (with-long (seal (f rec)) ls) (with-long (f rec) lf)
       (with-alike (seal (f rec)) (f rec) ls lf (seal-alike (f rec) lf 0 492 (omega arith)))
       ∙ ap seal (p .pass rec full)
-      ∙ sym (seal-same (f (seal (with rec))) (f (with rec)) (p .long (seal (with rec)) lt) (p .long (with rec) lw) (p .alike (seal (with rec)) (with rec) lt lw (seal-alike (with rec) lw 0 492 (omega arith))))
+      ∙ sym (seal-same (f (seal (with rec))) (f (with rec)) (p .long (seal (with rec)) lt) (p .long (with rec) lw)
+      (p .alike (seal (with rec)) (with rec) lt lw (seal-alike (with rec) lw 0 492 (omega arith))))
 
   -- ---- each effect: the keys that it is made from are as they were
 
@@ -158,8 +161,9 @@ module _ (m t : ℕ) where
     new-commutes page d right = by-page (eqb page setKey) (eqb page seedExchange) (eqb page changeMaster) refl
       where
         by-page : (a b c : Bool) → eqb page setKey ≡ a
-            → attributesSet m t (pick a (workingKeySet (newVersion d) (seed d) rec) (pick b (exchanged (agreed d) rec) (pick c (changed rec) rec)))
-            ≡ pick a (workingKeySet (newVersion d) (seed d) (attributesSet m t rec)) (pick b (exchanged (agreed d) (attributesSet m t rec)) (pick c (changed (attributesSet m t rec)) (attributesSet m t rec)))
+            → (let set : List ℕ = attributesSet m t rec in
+            attributesSet m t (pick a (workingKeySet (newVersion d) (seed d) rec) (pick b (exchanged (agreed d) rec) (pick c (changed rec) rec)))
+            ≡ pick a (workingKeySet (newVersion d) (seed d) set) (pick b (exchanged (agreed d) set) (pick c (changed set) set)))
         by-page true b c e = key-commutes (newVersion d) (seed d) (right-version page d (eqb-true page setKey e) right)
         by-page false true c e = exchange-commutes (agreed d)
         by-page false false true e = change-commutes

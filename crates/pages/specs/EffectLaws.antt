@@ -21,14 +21,17 @@ use Rattle.hmac.specs.Hmac.{hmac, bySha1}
 use Rattle.hmac.specs.HmacLaws.{hmac-length, sha1-lawful}
 use Rattle.md.specs.Padding.{blockCount}
 use Rattle.units.specs.declared.UnitState.the-variants.{Used}
-use Rattle.units.specs.Unit.{method, mask, policyTag, step, identifier, authKey, genKey, nextAuthKey, nextGenKey, nextPairZero, workingKey, isValid, keeperField, noKeys, unitStateOf}
+use Rattle.units.specs.Unit.{method, mask, policyTag, step, identifier, authKey, genKey, nextAuthKey, nextGenKey, nextPairZero}
+use Rattle.units.specs.Unit.{workingKey, isValid, keeperField, noKeys, unitStateOf}
 use Rattle.model.specs.Protocol.{seedExchange, setKey, changeMaster}
 use Rattle.pages.specs.Out.{newVersion, seed, agreed, wrongList}
 use Rattle.pages.specs.Effects.{attributesSet, withBit, workingKeySet, nextAuth, nextGen, exchanged, changed, newKeys}
 use Rattle.pages.specs.OutLaws.{part-length, right-version}
 use Rattle.pages.specs.BitLaws.{with-here, with-other, bytes-bit}
 use Rattle.pages.specs.RecordLaws.{Alike, alike-trans, alike-number, alike-zeros, alike-part, narrow, patch-alike, Twice, twice-holds}
-use Rattle.pages.specs.FieldLaws.{ValidOrZero, Shape, shape-of, SameFrame, SamePolicy, SameMaster, SameNext, SameWorking, same-frame, same-policy, same-master, same-next, same-working, used-kept, known-kept, pending-kept, pair-kept, keys-kept, own-keeper, keeper-kept}
+use Rattle.pages.specs.FieldLaws.{ValidOrZero, Shape, shape-of, SameFrame, SamePolicy, SameMaster, SameNext, SameWorking}
+use Rattle.pages.specs.FieldLaws.{same-frame, same-policy, same-master, same-next, same-working}
+use Rattle.pages.specs.FieldLaws.{used-kept, known-kept, pending-kept, pair-kept, keys-kept, own-keeper, keeper-kept}
 
 -- ---- keys of 20 bytes: an HMAC is one, and two make one patch
 

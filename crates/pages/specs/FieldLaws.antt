@@ -14,7 +14,8 @@ use Rattle.wire.specs.Bytes.{number, zeros}
 use Rattle.wire.specs.ZeroLaws.{zeros-within, number-zeros}
 use Rattle.seal.specs.Seal.{checked}
 use Rattle.units.specs.declared.UnitState.the-variants.{Unused, Used, Unsound}
-use Rattle.units.specs.Unit.{layout, unitNumber, method, mask, policyTag, step, identifier, authKey, genKey, nextAuthKey, nextGenKey, nextPairZero, workingKey, isValid, keysZero, keeperField, noKeys, keeperShape, unnamedZero, usedShape, unitStateOf}
+use Rattle.units.specs.Unit.{layout, unitNumber, method, mask, policyTag, step, identifier, authKey, genKey, nextAuthKey, nextGenKey}
+use Rattle.units.specs.Unit.{nextPairZero, workingKey, isValid, keysZero, keeperField, noKeys, keeperShape, unnamedZero, usedShape, unitStateOf}
 use Rattle.pages.specs.RecordLaws.{Alike, alike-number, alike-zeros, alike-part}
 
 -- ---- used: the check, and the tests of the shape, each passed

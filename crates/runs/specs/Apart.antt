@@ -31,7 +31,8 @@ use Rattle.pages.specs.Out.{newMethod, newTag, wrongList}
 use Rattle.pages.specs.Effects.{attributesSet, newKeys}
 use Rattle.pages.specs.EffectLaws.{attributes-length, attributes-master, attributes-next, attributes-working, new-length}
 use Rattle.pages.specs.CommuteLaws.{new-commutes}
-use Rattle.calls.specs.Whole.{Asked, nothing, attributes, keySet, Made, Local, local, isReplied, replyTo, madeBy, passed, judged, laid, closeReason, wholeReason, whole}
+use Rattle.calls.specs.Whole.{Asked, nothing, attributes, keySet, Local, local, isReplied, replyTo, madeBy, passed, judged, laid}
+use Rattle.calls.specs.Whole.{closeReason, wholeReason, whole}
 use Rattle.calls.specs.WholeLaws.{judged-passed}
 use Rattle.calls.specs.CloseLaws.{made-attributes}
 use Rattle.calls.specs.Outcome.{Tables}
@@ -120,8 +121,9 @@ unfolding judged passed
 made-is s c d r = by-tests (eqb r 0) (eqb (codeOf c) protocolOut) (isReplied c)
   where
     by-tests : (a b p : Bool)
-        → (pick a (pick b (local (Good 0) [] (madeBy s (pageOf c) d)) (pick p (local (Good (length (replyTo s c))) (replyTo s c) nothing) (local Run [] nothing))) (local (refusal r) [] nothing)) .made
-        ≡ pick (both a b) (madeBy s (pageOf c) d) nothing
+        → (let replied : Local = local (Good (length (replyTo s c))) (replyTo s c) nothing in
+        (pick a (pick b (local (Good 0) [] (madeBy s (pageOf c) d)) (pick p replied (local Run [] nothing))) (local (refusal r) [] nothing)) .made
+        ≡ pick (both a b) (madeBy s (pageOf c) d) nothing)
     by-tests true true p = refl
     by-tests true false true = refl
     by-tests true false false = refl

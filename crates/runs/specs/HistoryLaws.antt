@@ -230,8 +230,9 @@ module _ (start us : List ℕ) (full : length us ≡ 4096) (fixed : KeepersOf st
       -- it is a key command of u's set just where its unit has the same keeper
       in-set : isKeyCommand start u x ≡ eqb (keeperOf us (x .what .unit)) (keeperOf us u)
       in-set =
-          ap₂ (λ (a b : ℕ). both (eqb a b) (both (eqb (codeOf (x .what .command)) protocolOut) (isA 0 (x .answer)))) (sym (fixed (x .what .unit))) (sym (fixed u))
-          ∙ ap (both (eqb (keeperOf us (x .what .unit)) (keeperOf us u))) good ∙ both-right (eqb (keeperOf us (x .what .unit)) (keeperOf us u))
+          let told : ℕ → ℕ → Bool = λ a b. both (eqb a b) (both (eqb (codeOf (x .what .command)) protocolOut) (isA 0 (x .answer))) in
+          let same = eqb (keeperOf us (x .what .unit)) (keeperOf us u) in
+          ap₂ told (sym (fixed (x .what .unit))) (sym (fixed u)) ∙ ap (both same) good ∙ both-right same
 
   says-whole : whole us (x .what) (x .sent) (x .clock) .answer ≡ x .answer
       → Says (pick (isKeyCommand start u x) (keyCommand (pageOf (x .what .command)) (x .sent) k) k) (keySetOf (whole us (x .what) (x .sent) (x .clock) .units) u)

@@ -26,7 +26,8 @@ use Rattle.slots.specs.TableLaws.{all-freed-length, all-freed}
 use Rattle.judge.specs.Judgement.{isUnsound}
 use Rattle.calls.specs.Outcome.{leaves, tables}
 use Rattle.calls.specs.OutcomeLaws.{one-table}
-use Rattle.calls.specs.BuildLaws.{keeper-none, keeper-other, build-good, build-own, build-shares, build-sound, build-apart, build-shared, build-others, build-whole}
+use Rattle.calls.specs.BuildLaws.{keeper-none, keeper-other, build-good, build-own, build-shares, build-sound, build-apart, build-shared}
+use Rattle.calls.specs.BuildLaws.{build-others, build-whole}
 use Rattle.calls.specs.Slots.{resetOut}
 use Rattle.runs.specs.Run.{SoundUnits, isDamaged, SoundTables}
 use Rattle.runs.specs.Fresh.{blanks, fresh, Asking, buildAs, LosesNone, Built}

@@ -18,7 +18,8 @@ use Rattle.seal.specs.Seal.{checked, blankRecord}
 use Rattle.seal.specs.BlankLaws.{record-checked, record-zeros, blank-sound}
 use Rattle.units.specs.declared.UnitState.{UnitState}
 use Rattle.units.specs.declared.UnitState.the-variants.{Unused, Used, Unsound}
-use Rattle.units.specs.Unit.{layout, unitNumber, method, mask, step, identifier, nextPairZero, unnamedZero, isValid, keysZero, keeperField, noKeys, keeperShape, usedShape, unitStateOf}
+use Rattle.units.specs.Unit.{layout, unitNumber, method, mask, step, identifier, nextPairZero, unnamedZero, isValid, keysZero}
+use Rattle.units.specs.Unit.{keeperField, noKeys, keeperShape, usedShape, unitStateOf}
 use Rattle.units.specs.Unit.{unitAt, keeperOf, keySetOf, isUsed, keepsKeys, keptState, unitState}
 
 pub keys-zero : (l : List ℕ) → keysZero 0 l ≡ true

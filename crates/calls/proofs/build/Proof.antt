@@ -33,7 +33,8 @@ returns-4 c =
     let k = c .before in
     let c3 = k .before .before in
     let c2 = c3 .before in
-    build-unkept _ _ _ _ _ _ _ _ (c2 .before .if1 .left) (c2 .if2 .left) (c3 .if3 .left) _ (k .right-keeper .ensures) (not-true _ (c .if4 .taken))
+    build-unkept _ _ _ _ _ _ _ _ (c2 .before .if1 .left) (c2 .if2 .left) (c3 .if3 .left) _ (k .right-keeper .ensures)
+    (not-true _ (c .if4 .taken))
 
 cast-a : tie.Need-cast-a
 cast-a c = search needs
@@ -69,7 +70,9 @@ returns-5 c =
     let c1 = c2 .before in
     let a = c1 .before .before .args in
     let w = b .write-built in
-    build-good _ _ _ _ _ _ _ _ (c1 .if1 .left) (c2 .if2 .left) (c3 .if3 .left) _ (k .right-keeper .ensures) (not-false _ (c4 .if4 .left)) _ (patch-lent (a .units .now) (a .unit .0 * 512) 512 _ _ (omega arith) (w .kept .0) (w .ensures))
+    let table = patch-lent (a .units .now) (a .unit .0 * 512) 512 _ _ (omega arith) (w .kept .0) (w .ensures) in
+    build-good _ _ _ _ _ _ _ _ (c1 .if1 .left) (c2 .if2 .left) (c3 .if3 .left) _ (k .right-keeper .ensures) (not-false _ (c4 .if4 .left))
+    _ table
 
 pub build-spec : {M : Type 1} → statement M
 build-spec =

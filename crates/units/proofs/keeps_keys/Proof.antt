@@ -30,7 +30,8 @@ returns c =
     let f = c2 .before in
     let r = f .before in
     let s = r .before .before in
-    keeps-own (now (s .args .units)) (s .args .unit .0) _ _ (r .record-of .ensures) (f .keeper-field-of .ensures) (c2 .if1 .taken) _ (c .before .state-of .ensures) _ (c .is-used .ensures)
+    keeps-own (now (s .args .units)) (s .args .unit .0) _ _ (r .record-of .ensures) (f .keeper-field-of .ensures) (c2 .if1 .taken)
+    _ (c .before .state-of .ensures) _ (c .is-used .ensures)
 
 returns-2 : tie.Need-returns-2
 returns-2 c =

@@ -24,7 +24,8 @@ returns : tie.Need-returns
 returns c =
     let p = c .before .before in
     let g = p .before .before in
-    p .set-pair .ensures ∙ ap₂ (λ (x y : List ℕ). withPair x y (now (g .before .before .before .args .rec))) (g .before .own-key .ensures) (g .own-key2 .ensures)
+    let rec = now (g .before .before .before .args .rec) in
+    p .set-pair .ensures ∙ ap₂ (λ (x y : List ℕ). withPair x y rec) (g .before .own-key .ensures) (g .own-key2 .ensures)
 
 pub set-own-pair-spec : {M : Type 1} → statement M
 set-own-pair-spec = tie.close (tie.spec own-key-requires own-key-requires-2 set-pair-requires same-length returns)
