@@ -157,7 +157,8 @@ extern "C" {
  * Change at a sharer act on the keeper's record, S is made with the keeper's identifier, and page 0011h shows the keeper's mask. So a key
  * that is set at one unit of the set is there for all, and a Change at one ends the working keys of all. Method, policy access tag and
  * identifier are each unit's own, and Set Attributes changes its unit alone. Give each unit of a set an identifier of its own: under one
- * key set that is what keeps a capability for one unit from holding at another. Who keeps whose keys is fixed until a record is built anew.
+ * key set that, beside a tag that is not zero, is what keeps a capability for one unit from holding at another. Who keeps whose keys is
+ * fixed until a record is built anew.
  *
  * Take care when a keeper is built anew: with keys of its own, its sharers share the new ones from then on; as a sharer itself, it leaves
  * every unit that shared its keys unsound (1Bh), until it is built with keys of its own again or they are built anew.
