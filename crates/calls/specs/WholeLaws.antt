@@ -9,6 +9,7 @@ use lib.ListN.{length, getD, drop}
 use lib.Seq.{getD-take, getD-drop}
 use borrow.Author.Tests.{eqb-true, ne-eqb, not-false}
 use Rattle.choice.specs.Choice.{both, pick}
+use Rattle.choice.specs.ChoiceLaws.{second-false}
 use Rattle.wire.specs.Bytes.{part, patch}
 use Rattle.model.specs.Protocol.{protocolIn, protocolOut, seedIn}
 use Rattle.model.specs.Codes.{dataOut}
@@ -53,10 +54,6 @@ module _ (s : Seen) (c token d : List ℕ) (clock : ℕ) where
       let p = append-none (openTests s c token clock) (listTests c d) all in
       (none-first (openTests s c token clock) (p .0), p .1)
 
-here : (b x : Bool) → b ≡ true → both b x ≡ false → x ≡ false
-here true x t e = e
-here false x t e = let z : _≡_ {A = ℕ} 0 1 = cc in absurd (omega arith)
-
 -- a parameter list that passed: as long as its page says, and nothing wrong with it
 pub list-passed : (s : Seen) (c token d : List ℕ) (clock : ℕ) → closeReason s c token d clock ≡ 0 → eqb (codeOf c) protocolOut ≡ true
     → (length d ≡ totalOf (pageOf c)) × (wrongList (pageOf c) d ≡ false)
@@ -64,9 +61,9 @@ unfolding listTests pageTests
 list-passed s c token d clock e t =
     let n = close-none s c token d clock e in
     let page = none-refuse s c token clock (n .0) .page in
-    let total = eqb-true (lengthField c) (totalOf (pageOf c)) (not-false _ (here (eqb (codeOf c) protocolOut) _ t (page .0))) in
-    let long = eqb-true (length d) (lengthField c) (not-false _ (here (eqb (codeOf c) protocolOut) _ t (n .1 .0))) in
-    (long ∙ total, here (eqb (codeOf c) protocolOut) (wrongList (pageOf c) d) t (n .1 .1 .0))
+    let total = eqb-true (lengthField c) (totalOf (pageOf c)) (not-false _ (second-false (eqb (codeOf c) protocolOut) _ t (page .0))) in
+    let long = eqb-true (length d) (lengthField c) (not-false _ (second-false (eqb (codeOf c) protocolOut) _ t (n .1 .0))) in
+    (long ∙ total, second-false (eqb (codeOf c) protocolOut) (wrongList (pageOf c) d) t (n .1 .1 .0))
 
 -- ---- the list is judged only for B5h, and B5h is data-out
 

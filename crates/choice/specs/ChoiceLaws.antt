@@ -28,3 +28,12 @@ pick-cases P false x y p q = q refl
 pub both-right : (b : Bool) → both b true ≡ b
 both-right true = refl
 both-right false = refl
+
+pub both-none : (b : Bool) → both b false ≡ false
+both-none true = refl
+both-none false = refl
+
+-- where both fail and the first holds, the second fails
+pub second-false : (a b : Bool) → a ≡ true → both a b ≡ false → b ≡ false
+second-false true b t e = e
+second-false false b t e = cc

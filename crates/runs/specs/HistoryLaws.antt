@@ -9,7 +9,7 @@ use lib.Dec.{eqb}
 use lib.ListN.{length}
 use borrow.Author.Tests.{eqb-true, eqb-false, eq-eqb}
 use Rattle.choice.specs.Choice.{both, pick}
-use Rattle.choice.specs.ChoiceLaws.{both-right}
+use Rattle.choice.specs.ChoiceLaws.{both-right, both-none}
 use Rattle.wire.specs.Bytes.{patch}
 use Rattle.wire.specs.PatchLaws.{record-here, record-other}
 use Rattle.hmac.specs.Hmac.{hmac, bySha1}
@@ -199,15 +199,6 @@ module _ (units : List ℕ) (w page : ℕ) (d : List ℕ) (o : Obeys units w pag
 
 -- ---- a whole command, at any unit
 
-never : (a b : Bool) → both a (both b false) ≡ false
-never true true = refl
-never true false = refl
-never false b = refl
-
-off : (b : Bool) → both b false ≡ false
-off true = refl
-off false = refl
-
 -- who keeps keys is as it was in the starting table
 abbrev pub KeepersOf : List ℕ → List ℕ → Type 0
 KeepersOf start us = (v : ℕ) → keeperOf us v ≡ keeperOf start v
@@ -239,10 +230,10 @@ module _ (start us : List ℕ) (full : length us ≡ 4096) (fixed : KeepersOf st
   unfolding Told refusal
   says-whole =
       whole-cases us (x .what) (x .sent) (x .clock) Told
-      (λ n e. stays (ap (λ b. both (eqb (keeperOf start (x .what .unit)) (keeperOf start u)) (both (eqb (codeOf (x .what .command)) protocolOut) b)) (sym (ap (isA 0) e)) ∙ never (eqb (keeperOf start (x .what .unit)) (keeperOf start u)) (eqb (codeOf (x .what .command)) protocolOut)))
+      (λ n e. stays (ap (λ b. both (eqb (keeperOf start (x .what .unit)) (keeperOf start u)) (both (eqb (codeOf (x .what .command)) protocolOut) b)) (sym (ap (isA 0) e)) ∙ ap (both (eqb (keeperOf start (x .what .unit)) (keeperOf start u))) (both-none (eqb (codeOf (x .what .command)) protocolOut)) ∙ both-none (eqb (keeperOf start (x .what .unit)) (keeperOf start u))))
       (λ z t e. obeyed-says (obeys us (x .what) (x .sent) (x .clock) full z t) t e)
-      (λ z f r e. stays (rw f (off (eqb (keeperOf start (x .what .unit)) (keeperOf start u)))))
-      (λ z f r e. stays (rw f (off (eqb (keeperOf start (x .what .unit)) (keeperOf start u)))))
+      (λ z f r e. stays (rw f (both-none (eqb (keeperOf start (x .what .unit)) (keeperOf start u)))))
+      (λ z f r e. stays (rw f (both-none (eqb (keeperOf start (x .what .unit)) (keeperOf start u)))))
     where
       stays : isKeyCommand start u x ≡ false
           → Says (pick (isKeyCommand start u x) (keyCommand (pageOf (x .what .command)) (x .sent) k) k) (keySetOf us u)

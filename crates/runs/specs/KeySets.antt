@@ -12,6 +12,7 @@ use lib.ListN.{length, getD, take, length-append}
 use lib.Seq.{getD-take, getD-append-add}
 use borrow.Author.Tests.{eqb-false, eq-eqb}
 use Rattle.choice.specs.Choice.{both, pick}
+use Rattle.choice.specs.ChoiceLaws.{second-false}
 use Rattle.wire.specs.Bytes.{number, bytesOf}
 use Rattle.wire.specs.NumberLaws.{number-ext, bytes-length}
 use Rattle.model.specs.Protocol.{protocolIn, attributesIn, seedIn}
@@ -108,10 +109,6 @@ mask-shown t es m sound ran x clock reply a r n meets good page twelve v h =
 
 -- ---- IN 0012h: where nothing refuses one, a seed exchange is pending in the unit's set, by the history
 
-off-by : (a b : Bool) → a ≡ true → both a b ≡ false → b ≡ false
-off-by true b e f = f
-off-by false b e f = let z : _≡_ {A = ℕ} 0 1 = cc in absurd (omega arith)
-
 step-one : (n : ℕ) → eqb n 0 ≡ false → n < 2 → eqb n 1 ≡ true
 step-one n e h = let ne = eqb-false n 0 e in eq-eqb n 1 (omega arith)
 
@@ -127,7 +124,7 @@ module _ (t : Tables) (es : List Event) (m : Tables) (sound : SoundTables t) (ra
       rw (eq-eqb (codeOf (x .command)) protocolIn code, eq-eqb (pageOf (x .command)) seedIn page) in
       let used = used-has (m .units) (x .unit) (open-passed s (x .command) (x .token) clock passes .used) in
       let small = used-sound keeper (unitAt keeper (m .units)) (keeps-has (m .units) keeper (used .1) .0) .pending in
-      history-said t es m sound ran (x .unit) .pending ∙ step-one (step (s .keys)) (off-by _ (eqb (step (s .keys)) 0) in-seed none) (omega arith)
+      history-said t es m sound ran (x .unit) .pending ∙ step-one (step (s .keys)) (second-false _ (eqb (step (s .keys)) 0) in-seed none) (omega arith)
 
   -- so at any step one is refused while none is
   module _ (k : Call) (a : Answer) (r : List ℕ) (n : Tables) (meets : Meets m k a r n) (command : isCommand k ≡ true)

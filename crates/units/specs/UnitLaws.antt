@@ -10,7 +10,7 @@ use lib.ListN.{length, length-take, length-drop}
 use lib.Dec.{eqb, leb}
 use borrow.Author.Tests.{eqb-true, eqb-false, eq-eqb, ne-eqb, leb-true}
 use Rattle.choice.specs.Choice.{both, either, pick}
-use Rattle.choice.specs.ChoiceLaws.{both-true, both-right}
+use Rattle.choice.specs.ChoiceLaws.{both-true, both-right, both-none}
 use Rattle.wire.specs.Bytes.{same, number, zeros}
 use Rattle.wire.specs.SameLaws.{same-true, same-refl}
 use Rattle.wire.specs.ZeroLaws.{zeros-within, number-zeros}
@@ -288,8 +288,4 @@ module _ (units : List ℕ) (u : ℕ) (l : List ℕ) (f : ℕ) (el : l ≡ unitA
   unfolding keepsKeys
   keeps-none n =
       let field = ne-eqb (keeperField (unitAt u units)) 0 (λ z. n (ef ∙ ap keeperField el ∙ z)) in
-      rw field (sym (both-false (isUsed (unitStateOf u (unitAt u units)))))
-    where
-      both-false : (b : Bool) → both b false ≡ false
-      both-false true = refl
-      both-false false = refl
+      rw field (sym (both-none (isUsed (unitStateOf u (unitAt u units)))))
