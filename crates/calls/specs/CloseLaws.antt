@@ -8,6 +8,7 @@ use lib.Dec.{eqb, leb}
 use lib.ListN.{length}
 use borrow.Author.Tests.{leb-true, le-leb, lt-leb, eq-eqb, ne-eqb}
 use Rattle.choice.specs.ChoiceLaws.{both-true}
+use Rattle.wire.specs.PatchLaws.{patch-none}
 use Rattle.model.specs.Protocol.{protocolOut, setAttributes}
 use Rattle.model.specs.Refusal.{refusal}
 use Rattle.model.specs.declared.Answer.{Answer}
@@ -24,7 +25,7 @@ use Rattle.pages.specs.Effects.{attributesSet, newKeys}
 use Rattle.calls.specs.Outcome.{TableOutcome, leaves, Lent, lent, tables, Outcome, gives, rightlyLent}
 use Rattle.calls.specs.Slots.{holds}
 use Rattle.calls.specs.Whole.{Asked, attributes, keySet, closeReason, isReplied, madeBy, passed, laid, stored, wholeReason, whole}
-use Rattle.calls.specs.WholeLaws.{patch-none, held-code, not-replied, judged-silent, judged-passed, judged-refused}
+use Rattle.calls.specs.WholeLaws.{held-code, not-replied, judged-silent, judged-passed, judged-refused}
 use Rattle.calls.specs.Close.{heldBy, closeOut}
 use Rattle.calls.specs.Parts.{onUnits}
 

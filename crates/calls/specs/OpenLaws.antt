@@ -7,6 +7,7 @@ use lib.Dec.{eqb}
 use lib.ListN.{length}
 use borrow.Author.Tests.{ne-eqb}
 use Rattle.wire.specs.Bytes.{patch}
+use Rattle.wire.specs.PatchLaws.{patch-none}
 use Rattle.model.specs.Paper.{Paper}
 use Rattle.model.specs.Codes.{dataOut}
 use Rattle.model.specs.Refusal.{refusal}
@@ -19,7 +20,7 @@ use Rattle.judge.specs.Seen.{Seen, seen}
 use Rattle.pages.specs.In.{replyOf}
 use Rattle.calls.specs.Outcome.{TableOutcome, leaves, Lent, lent, Outcome, gives, onSlots, withSlots, rightlyLent}
 use Rattle.calls.specs.Whole.{Asked, isReplied, replyTo, passed}
-use Rattle.calls.specs.WholeLaws.{patch-none, out-code, passed-keeps, judged-passed, judged-refused}
+use Rattle.calls.specs.WholeLaws.{out-code, passed-keeps, judged-passed, judged-refused}
 use Rattle.calls.specs.Open.{reasonAtOpen, parks, parkedIn, judgedOut, openOut}
 use Rattle.calls.specs.Parts.{onReply}
 

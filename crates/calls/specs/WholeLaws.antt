@@ -10,7 +10,7 @@ use lib.Seq.{getD-take, getD-drop}
 use borrow.Author.Tests.{eqb-true, ne-eqb, not-false}
 use Rattle.choice.specs.Choice.{both, pick}
 use Rattle.choice.specs.ChoiceLaws.{second-false}
-use Rattle.wire.specs.Bytes.{part, patch}
+use Rattle.wire.specs.Bytes.{part}
 use Rattle.model.specs.Protocol.{protocolIn, protocolOut, seedIn}
 use Rattle.model.specs.Codes.{dataOut}
 use Rattle.model.specs.CodeLaws.{legal-some}
@@ -28,11 +28,6 @@ use Rattle.judge.specs.TestLaws.{first-append, first-none, none-first, else-non
 use Rattle.judge.specs.JudgementLaws.{open-named, none-refuse}
 use Rattle.pages.specs.Out.{wrongList}
 use Rattle.calls.specs.Whole.{listTests, closeReason, nothing, local, isReplied, replyTo, madeBy, passed, judged}
-
--- nothing written at the front
-pub patch-none : (l : List ℕ) → patch l 0 [] ≡ l
-unfolding patch
-patch-none l = refl
 
 -- ---- the reason: that of an open, and where there is none that of the list
 

@@ -1,10 +1,11 @@
 -- The effects' steps: what the code reads, makes and writes one after another is what their definitions say.
 use mathlib.Core.Path.{_≡_, refl, _∙_, ap}
-use mathlib.Core.List.{List, [], _∷_, _++_, append-nil}
+use mathlib.Core.List.{List, [], _∷_, _++_}
 use Prim.Native.Nat.{ℕ, zero, suc, _≤_, _<_}
 use native.Mathlib.Omega.{arith}
-use lib.ListN.{length, getD, set, drop-of-length-le}
+use lib.ListN.{length, getD, set}
 use Rattle.wire.specs.Bytes.{patch}
+use Rattle.wire.specs.PatchLaws.{patch-all}
 use Rattle.hmac.specs.Hmac.{hmac, bySha1}
 use Rattle.seal.specs.Seal.{seal}
 use Rattle.units.specs.Unit.{mask, identifier, genKey, nextAuthKey, nextGenKey}
@@ -32,11 +33,6 @@ pub next-auth : (value rec : List ℕ) → length rec ≡ 512
     → nextAuth value rec ≡ hmac bySha1 (genKey rec) (value ++ lastFlipped (identifier rec))
 unfolding nextAuth
 next-auth value rec full = ap (hmac bySha1 (genKey rec)) (flip-behind value (identifier rec) (omega (arith, identifier-length rec full)))
-
--- a patch of all
-patch-all : (d s : List ℕ) → length d ≤ length s → patch d 0 s ≡ s
-unfolding patch
-patch-all d s h = rw (drop-of-length-le d h) (append-nil s)
 
 -- the identifier's sixteen bytes, copied, and the last one flipped
 pub flipped-steps : (rec zs id x : List ℕ) (b : ℕ) → length rec ≡ 512 → length zs ≡ 16 → x ≡ identifier rec

@@ -12,6 +12,7 @@ use borrow.Author.Tests.{eqb-true, ne-eqb}
 use Rattle.choice.specs.Choice.{pick, both}
 use Rattle.choice.specs.ChoiceLaws.{both-true, either-false, pick-cases}
 use Rattle.wire.specs.Bytes.{patch}
+use Rattle.wire.specs.PatchLaws.{patch-none}
 use Rattle.model.specs.Codes.{dataOut}
 use Rattle.model.specs.CodeLaws.{legal-small}
 use Rattle.model.specs.Paper.{No, A, H, paperOf}
@@ -33,7 +34,6 @@ use Rattle.calls.specs.OutcomeLaws.{one-outcome, lengths-are, one-table}
 use Rattle.calls.specs.Build.{rightKeeper, buildOut}
 use Rattle.calls.specs.Slots.{holds, abortOut, resetOut}
 use Rattle.calls.specs.Whole.{Asked, Whole, whole}
-use Rattle.calls.specs.WholeLaws.{patch-none}
 use Rattle.calls.specs.Open.{reasonAtOpen, parks, parkedIn, openOut}
 use Rattle.calls.specs.Close.{heldBy, closeOut}
 use Rattle.calls.specs.CloseLaws.{holds-open, held-silent}
@@ -162,7 +162,7 @@ module _ (l : Lent) (s : ℕ) (d : List ℕ) (clock : ℕ) where
       closed h g =
           let silent = held-silent (l .tabled .units) (slotAt s (l .tabled .slots)) d clock (holds-open (l .tabled .slots) s g .1) in
           record {
-            reply = ap (patch (l .reply) 0) silent ∙ patch-none (l .reply);
+            reply = ap (patch (l .reply) 0) silent ∙ patch-none (l .reply) 0;
             count = sym (whole-written (l .tabled .units) k d clock) ∙ ap length silent;
             slots = rw (whole-final (l .tabled .units) k d clock);
             units = good-units (l .tabled .units) k d clock;

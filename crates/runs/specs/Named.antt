@@ -12,7 +12,7 @@ use borrow.Author.Tests.{ne-eqb, le-ltb}
 use Rattle.choice.specs.Choice.{either}
 use Rattle.hmac.specs.Hmac.{hmac, bySha1}
 use Rattle.wire.specs.Bytes.{patch}
-use Rattle.wire.specs.PatchLaws.{record-here}
+use Rattle.wire.specs.PatchLaws.{patch-none, record-here}
 use Rattle.model.specs.Protocol.{setKey}
 use Rattle.model.specs.Rows.{rows, listed, byPage, needOf, isUnknown, isOpenRow}
 use Rattle.model.specs.RowLaws.{page-ignored, listed-by-need}
@@ -43,7 +43,7 @@ use Rattle.calls.specs.Outcome.{Lent, gives, withSlots, rightlyLent}
 use Rattle.calls.specs.OutcomeLaws.{lengths-are}
 use Rattle.calls.specs.Slots.{holds}
 use Rattle.calls.specs.Whole.{Asked, isReplied, replyTo, madeBy, passed, judged, laid, Whole, wholeReason}
-use Rattle.calls.specs.WholeLaws.{patch-none, not-replied, held-code, close-early, close-none}
+use Rattle.calls.specs.WholeLaws.{not-replied, held-code, close-early, close-none}
 use Rattle.calls.specs.Open.{reasonAtOpen, judgedOut, openOut}
 use Rattle.calls.specs.OpenLaws.{open-judged, judged-refuses}
 use Rattle.calls.specs.Close.{heldBy, closeOut}

@@ -1,4 +1,5 @@
 -- Bytes in lists: parts, big-endian numbers, zeros, equality, and one write. Reads are total: past a list's end stand zeros.
+-- docs/RULES.md, 9.
 use Prim.Native.Nat.{ℕ, zero, suc, _+_, _*_, _/_, _%_, _<_}
 use mathlib.Core.Bool.{Bool, true, false}
 use mathlib.Core.List.{List, [], _∷_, _++_}

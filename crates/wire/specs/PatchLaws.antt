@@ -2,10 +2,10 @@
 use mathlib.Core.Path.{_≡_, refl, _∙_, sym, ap, ap₂}
 use mathlib.Core.Logic.{_⊎_, inl, inr, ⊎-elim}
 use mathlib.Core.Bool.{Bool, true, false}
-use mathlib.Core.List.{List, _++_, append-assoc}
+use mathlib.Core.List.{List, [], _++_, append-assoc, append-nil}
 use Prim.Native.Nat.{ℕ, _+_, _-_, _*_, _≤_, _<_}
 use native.Mathlib.Omega.{arith}
-use lib.ListN.{length, take, drop, getD, length-append, length-take, length-drop, List·getD-append}
+use lib.ListN.{length, take, drop, getD, length-append, length-take, length-drop, List·getD-append, take-append-drop, drop-of-length-le}
 use native.Mathlib.Nat.{add-assoc, add-sub-cancel-left}
 use lib.Dec.{eqb, ltb}
 use borrow.Author.Tests.{eqb-true, eqb-false, ltb-true, ltb-false}
@@ -20,6 +20,15 @@ length-patch xs a ys h = simp (length-append, length-take, length-drop) (omega a
 pub patch-paste : (xs : List ℕ) (a : ℕ) (ys : List ℕ) (n : ℕ) → n ≡ length ys → paste xs a ys n ≡ patch xs a ys
 unfolding patch
 patch-paste xs a ys n e = rw (e, take-length ys, append-assoc (take a xs) ys, drop-drop (length ys) a xs)
+
+-- a patch of no bytes, and one of all
+pub patch-none : (xs : List ℕ) (a : ℕ) → patch xs a [] ≡ xs
+unfolding patch
+patch-none xs a = take-append-drop a xs
+
+pub patch-all : (xs ys : List ℕ) → length xs ≤ length ys → patch xs 0 ys ≡ ys
+unfolding patch
+patch-all xs ys h = rw (drop-of-length-le xs h) (append-nil ys)
 
 -- the n bytes from a on were lent, as `&mut xs[a..a + n]`, and came back as ys
 pub patch-lent : (xs : List ℕ) (a n : ℕ) (ys zs : List ℕ) → a + n ≤ length xs → length ys ≡ length (take (a + n - a) (drop a xs)) → ys ≡ zs
