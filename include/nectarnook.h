@@ -2,7 +2,7 @@
  * nectarnook.h - capability-based command security for SCSI logical units
  *
  * The store keeps three buffers and lends them to each call; the library keeps nothing between calls, allocates nothing and calls
- * nothing but memcpy and memset. Link with libnectarnook.a, which `rt staticlib nectarnook` writes to target/staticlib/.
+ * nothing but memcpy and memset. Link with libnectarnook.a, which `make lib` puts into dist/ with this file.
  *
  *   units   4,096 bytes, the records of units 0 to 7
  *   slots   8,192 bytes, the records of slots 0 to 15, in which commands wait for their data
@@ -24,6 +24,19 @@
  *
  * Records keep their check with them, so the tables may be saved and brought back as bytes: a unit table as a whole, since a unit that
  * shares keys is sound only beside its keeper, and with it the keys and tags of that time.
+ *
+ * The archive is one ELF object for x86-64, compiled for the System V calling convention and for any such processor (of its vector
+ * registers it uses xmm, with no instruction past SSE2). It is position-independent: it links into programs at fixed addresses,
+ * position-independent ones and shared libraries alike. From the platform it needs memcpy and memset and nothing else: no operating
+ * system, no allocator, no start-up code. It writes the 128 bytes below the stack pointer that this convention leaves to a function (the
+ * red zone), so an interrupt must not run on the same stack right below it.
+ *
+ * Size and stack, of the library that this file came with: 22,532 bytes of code and constants, none of data (`size` on the object). The
+ * most stack that a call takes, its return address with it: nn_open 2,704 bytes, nn_close 3,232, nn_build 1,376, nn_abort 1,024,
+ * nn_reset 40, nn_sha1 880, nn_hmac_sha1 1,952. These are the frames of the compiled code, added up along the deepest path of calls by
+ * `tools/stack`: no function calls itself, and none is called through a pointer. What memcpy and memset take beyond their return address
+ * comes on top, and so do arguments that the caller passes on the stack. Calls on a painted stack, good and bad ones, 300,000 of nn_open
+ * among them, wrote no further down than that.
  */
 #ifndef NECTARNOOK_H
 #define NECTARNOOK_H
@@ -35,6 +48,9 @@
 extern "C" {
 #endif
 
+/* The version: docs/CHANGES.md says what each changed for a caller. */
+#define NN_VERSION 3
+
 /* ---- lengths, in bytes */
 
 #define NN_RECORD_LEN 512
@@ -45,6 +61,11 @@ extern "C" {
 #define NN_KEY_LEN 20
 #define NN_TOKEN_LEAST 16
 #define NN_TOKEN_MOST 64
+
+/* ---- methods of a unit: without security; commands bring a capability, signed under a key */
+
+#define NN_METHOD_NOSEC 0
+#define NN_METHOD_CAPKEY 1
 
 /* ---- fresh tables */
 
@@ -78,6 +99,10 @@ extern "C" {
 #define NN_STATUS(result) ((unsigned)((result) >> 8 & 0xff))
 #define NN_HAS_STATUS(result) (NN_ANSWER(result) <= NN_A4 && NN_ANSWER(result) != NN_A1)
 
+#define NN_STATUS_GOOD 0x00
+#define NN_STATUS_CHECK_CONDITION 0x02
+#define NN_STATUS_TASK_SET_FULL 0x28
+
 #define NN_SENSE_KEY(result) ((unsigned)((result) >> 16 & 0xff))
 #define NN_CODE(result) ((unsigned)((result) >> 24 & 0xff))
 #define NN_QUALIFIER(result) ((unsigned)((result) >> 32 & 0xff))
@@ -110,34 +135,32 @@ extern "C" {
 #define NN_H4 0x14
 #define NN_H5 0x15
 
-/* What NN_REASON gives with A3, and the sense beside it (key, code/qualifier). The first that applies is given.
+/* What NN_REASON gives with A3: the sense beside it (key, code/qualifier) and when it comes. The first that applies is given, in this
+ * order. 1Bh is written 1b. There is no reason 5. 18 and 19 come only from nn_close.
  *
- *   1    5h  25h/00h  the unit is above 7, or its record sound and unused
- *   1Bh  4h  44h/00h  the unit's record is unsound, or it shares keys and its keeper's is not sound, used and with keys of its own (written
- *                     1b)
- *   2    5h  20h/00h  the command is empty or its code unknown
- *   3    5h  24h/00h  its length is neither the bare CDB's nor 78 bytes more
- *   4    5h  24h/00h  A2h, B5h: protocol not 07h, page unlisted, or bit 7 of byte 4 set
- *   6    5h  24h/00h  bare, and the unit is CAPKEY or the command wants a master key
- *   7    5h  24h/00h  capability: format not 1h
- *   8    5h  24h/00h  capability: method not CAPKEY where CAPKEY rules, else above 1
- *   9    5h  24h/00h  capability: algorithm not 1, where CAPKEY rules
- *   10   5h  24h/00h  capability: expiration not zero and below the clock
- *   11   5h  24h/00h  capability: a needed permission bit is missing
- *   12   5h  24h/00h  capability: policy tag not zero and not the unit's
- *   13   5h  24h/00h  capability: type not 1h, length not 16, or identifier not the unit's
- *   14   5h  24h/00h  CAPKEY rules and there is no such key in the unit's key set
- *   15   5h  24h/00h  the integrity check value differs
- *   16   5h  1Ah/00h  B5h: bytes 6-9 are not the page's total
- *   17   5h  24h/00h  A2h, page 0012h: no seed exchange is pending in the unit's key set
- *   18   5h  1Ah/00h  B5h: the data are not as long as bytes 6-9 say
- *   19   5h  26h/00h  B5h: page code, page length, a field or a named zero of the data is wrong
- *
- * CAPKEY rules on CAPKEY units, and on every unit for the commands that want a master key: SECURITY PROTOCOL OUT, and page 0012h of
- * SECURITY PROTOCOL IN.
- *
- * There is no reason 5. 18 and 19 come only from nn_close. */
-#define NN_REASON_UNSOUND 0x1b
+ * CAPKEY rules on CAPKEY units, and on every unit for the commands that want a master key: SECURITY PROTOCOL OUT (B5h), and IN page 0012h,
+ * which is that of SECURITY PROTOCOL IN (A2h). */
+#define NN_REASON_NO_UNIT 1         /* 5h, 25h/00h: the unit is above 7, or its record sound and unused */
+#define NN_REASON_UNSOUND 0x1b      /* 4h, 44h/00h: the unit's record is unsound: damaged; or it shares keys, and its keeper's record is
+                                     *              unsound, unused or itself a sharer's */
+#define NN_REASON_UNKNOWN_COMMAND 2 /* 5h, 20h/00h: the command is empty or its code unknown */
+#define NN_REASON_COMMAND_LENGTH 3  /* 5h, 24h/00h: its length is neither the CDB's nor 78 bytes more */
+#define NN_REASON_PROTOCOL 4        /* 5h, 24h/00h: A2h, B5h: protocol byte 1 not 07h, page in bytes 2-3 unlisted, or bit 7 of byte 4 set */
+#define NN_REASON_NO_CAPABILITY 6   /* 5h, 24h/00h: no capability, and the unit is CAPKEY or the command wants a master key */
+#define NN_REASON_FORMAT 7          /* 5h, 24h/00h: capability: format not 1h */
+#define NN_REASON_METHOD 8          /* 5h, 24h/00h: capability: method not CAPKEY where CAPKEY rules, else above 1 */
+#define NN_REASON_ALGORITHM 9       /* 5h, 24h/00h: capability: algorithm not 1, where CAPKEY rules */
+#define NN_REASON_EXPIRED 10        /* 5h, 24h/00h: capability: expiration not zero and below the clock */
+#define NN_REASON_PERMISSIONS 11    /* 5h, 24h/00h: capability: a needed permission bit of byte 32 is missing */
+#define NN_REASON_POLICY_TAG 12     /* 5h, 24h/00h: capability: policy tag not zero and not the unit's */
+#define NN_REASON_DESCRIPTOR 13     /* 5h, 24h/00h: capability: type not 1h, length not 16, or identifier not the unit's */
+#define NN_REASON_NO_KEY 14         /* 5h, 24h/00h: no such key: the version has no valid key, a master command names another version
+                                     *              than 0, or Change comes with no seed exchange pending */
+#define NN_REASON_CHECK_VALUE 15    /* 5h, 24h/00h: the integrity check value differs */
+#define NN_REASON_TOTAL 16          /* 5h, 1Ah/00h: B5h: bytes 6-9 are not the page's total */
+#define NN_REASON_NO_EXCHANGE 17    /* 5h, 24h/00h: IN page 0012h with no seed exchange pending in the unit's key set */
+#define NN_REASON_DATA_LENGTH 18    /* 5h, 1Ah/00h: B5h: the data are not as long as bytes 6-9 say */
+#define NN_REASON_LIST 19           /* 5h, 26h/00h: B5h: page code, page length, a field or a named zero of the data is wrong */
 
 /*
  * nn_build - build a unit's record
@@ -183,7 +206,7 @@ uint64_t nn_build(uint8_t *units, size_t units_len, uint32_t unit, uint32_t meth
  *          A2  any other command passed: run it
  * Leaves:  A0 the reply's first NN_COUNT bytes new; A1 that slot new; everything else is kept, by the other answers every byte.
  */
-uint64_t nn_open(uint8_t *units, size_t units_len, uint8_t *slots, size_t slots_len, uint8_t *reply, size_t reply_len,
+uint64_t nn_open(const uint8_t *units, size_t units_len, uint8_t *slots, size_t slots_len, uint8_t *reply, size_t reply_len,
                  uint32_t unit, const uint8_t *command, size_t command_len, const uint8_t *token, size_t token_len,
                  uint64_t clock);
 
@@ -201,7 +224,7 @@ uint64_t nn_open(uint8_t *units, size_t units_len, uint8_t *slots, size_t slots_
  * Leaves:  with A0, A2 and A3 the slot is free; with A0 the unit's record is new, as the page says, or that of its keeper where the page
  *          is about keys. Everything else is kept, by H1 and H3 every byte.
  */
-uint64_t nn_close(uint8_t *units, size_t units_len, uint8_t *slots, size_t slots_len, uint8_t *reply, size_t reply_len,
+uint64_t nn_close(uint8_t *units, size_t units_len, uint8_t *slots, size_t slots_len, const uint8_t *reply, size_t reply_len,
                   uint32_t slot, const uint8_t *data, size_t data_len, uint64_t clock);
 
 /*
@@ -226,14 +249,14 @@ uint64_t nn_abort(uint8_t *slots, size_t slots_len, uint32_t slot);
 uint64_t nn_reset(uint8_t *slots, size_t slots_len);
 
 /*
- * nectarnook_sha1 - the SHA-1 of len bytes into out
+ * nn_sha1 - the SHA-1 of len bytes into out
  */
-void nectarnook_sha1(const uint8_t *message, size_t len, uint8_t out[20]);
+void nn_sha1(const uint8_t *message, size_t len, uint8_t out[20]);
 
 /*
- * nectarnook_hmac_sha1 - the HMAC-SHA1 of len bytes under a key of any length into out
+ * nn_hmac_sha1 - the HMAC-SHA1 of len bytes under a key of any length into out
  */
-void nectarnook_hmac_sha1(const uint8_t *key, size_t key_len, const uint8_t *message, size_t len, uint8_t out[20]);
+void nn_hmac_sha1(const uint8_t *key, size_t key_len, const uint8_t *message, size_t len, uint8_t out[20]);
 
 #ifdef __cplusplus
 }

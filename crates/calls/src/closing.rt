@@ -121,12 +121,12 @@ pub fn is_held(slots: &[u8], slot: SlotNo) -> bool
 pub fn close(
     units: &mut [u8],
     slots: &mut [u8],
-    reply: &mut [u8],
+    reply: &[u8],
     slot: SlotNo,
     list: &[u8],
     clock: u64,
 ) -> Answered
-    ensures { λ r. ⌜ gives (r .answer) (lent (tables (now (units .exit)) (now (slots .exit))) (now (reply .exit))) ≡ closeOut (lent (tables (now (units .entry)) (now (slots .entry))) (now (reply .entry))) (slot .0) (now (list .entry)) clock ⌝ }
+    ensures { λ r. ⌜ gives (r .answer) (lent (tables (now (units .exit)) (now (slots .exit))) (now (reply .entry))) ≡ closeOut (lent (tables (now (units .entry)) (now (slots .entry))) (now (reply .entry))) (slot .0) (now (list .entry)) clock ⌝ }
 {
     if right_lengths(units.len(), slots.len(), reply.len()) {
         if is_held(&slots[..], slot) {

@@ -101,7 +101,7 @@ fn judge_and_answer(
 
 // Opens a command at a unit.
 pub fn open(
-    units: &mut [u8],
+    units: &[u8],
     slots: &mut [u8],
     reply: &mut [u8],
     unit: UnitNo,
@@ -109,11 +109,11 @@ pub fn open(
     token: &[u8],
     clock: u64,
 ) -> Answered
-    ensures { λ r. ⌜ gives (r .answer) (lent (tables (now (units .exit)) (now (slots .exit))) (now (reply .exit))) ≡ openOut (lent (tables (now (units .entry)) (now (slots .entry))) (now (reply .entry))) (asked (unit .0) (now (command .entry)) (now (token .entry))) clock ⌝ }
+    ensures { λ r. ⌜ gives (r .answer) (lent (tables (now (units .entry)) (now (slots .exit))) (now (reply .exit))) ≡ openOut (lent (tables (now (units .entry)) (now (slots .entry))) (now (reply .entry))) (asked (unit .0) (now (command .entry)) (now (token .entry))) clock ⌝ }
 {
     if right_lengths(units.len(), slots.len(), reply.len()) {
         if slots::right_token(token.len()) {
-            let answer = judge_and_answer(&units[..], slots, reply, unit, command, token, clock);
+            let answer = judge_and_answer(units, slots, reply, unit, command, token, clock);
             return Answered { answer };
         }
         return Answered { answer: Answer::H2 };

@@ -86,7 +86,7 @@ pub extern "C" fn nn_build(
 // Opens a command.
 #[no_mangle]
 pub extern "C" fn nn_open(
-    units: &mut [u8],
+    units: &[u8],
     slots: &mut [u8],
     reply: &mut [u8],
     unit: u32,
@@ -94,7 +94,7 @@ pub extern "C" fn nn_open(
     token: &[u8],
     clock: u64,
 ) -> u64
-    ensures { λ r. ⌜ returned r (lent (tables (now (units .exit)) (now (slots .exit))) (now (reply .exit))) ≡ packedOut (openOut (lent (tables (now (units .entry)) (now (slots .entry))) (now (reply .entry))) (asked unit (now (command .entry)) (now (token .entry))) clock) ⌝ }
+    ensures { λ r. ⌜ returned r (lent (tables (now (units .entry)) (now (slots .exit))) (now (reply .exit))) ≡ packedOut (openOut (lent (tables (now (units .entry)) (now (slots .entry))) (now (reply .entry))) (asked unit (now (command .entry)) (now (token .entry))) clock) ⌝ }
 {
     let made = calls::open(units, slots, reply, UnitNo(unit), command, token, clock);
     let answer = made.answer;
@@ -106,12 +106,12 @@ pub extern "C" fn nn_open(
 pub extern "C" fn nn_close(
     units: &mut [u8],
     slots: &mut [u8],
-    reply: &mut [u8],
+    reply: &[u8],
     slot: u32,
     list: &[u8],
     clock: u64,
 ) -> u64
-    ensures { λ r. ⌜ returned r (lent (tables (now (units .exit)) (now (slots .exit))) (now (reply .exit))) ≡ packedOut (closeOut (lent (tables (now (units .entry)) (now (slots .entry))) (now (reply .entry))) slot (now (list .entry)) clock) ⌝ }
+    ensures { λ r. ⌜ returned r (lent (tables (now (units .exit)) (now (slots .exit))) (now (reply .entry))) ≡ packedOut (closeOut (lent (tables (now (units .entry)) (now (slots .entry))) (now (reply .entry))) slot (now (list .entry)) clock) ⌝ }
 {
     let made = calls::close(units, slots, reply, SlotNo(slot), list, clock);
     let answer = made.answer;

@@ -17,12 +17,12 @@ right-token-requires c κs = search needs
 
 judge-and-answer-requires : tie.Need-judge-and-answer-requires
 judge-and-answer-requires c κs =
-    let c3 = c .before .before .before in
+    let c2 = c .before .before in
+    let c3 = c2 .before in
     let c4 = c3 .before in
     let c5 = c4 .before in
-    let c6 = c5 .before in
-    let k = lengths-are _ _ _ (sym (c6 .right-lengths .ensures) ∙ c5 .if1 .taken) in
-    let t = token-is _ (sym (c4 .right-token .ensures) ∙ c3 .if2 .taken) in
+    let k = lengths-are _ _ _ (sym (c5 .right-lengths .ensures) ∙ c4 .if1 .taken) in
+    let t = token-is _ (sym (c3 .right-token .ensures) ∙ c2 .if2 .taken) in
     (k .0, k .1, k .2, t .1)
 
 same-length : tie.Need-same-length
@@ -31,21 +31,18 @@ same-length c = search needs
 same-length-2 : tie.Need-same-length-2
 same-length-2 c = search needs
 
-same-length-3 : tie.Need-same-length-3
-same-length-3 c = search needs
-
 returns : tie.Need-returns
 returns c =
     let c4 = c .before .before .before .before in
-    let c8 = c4 .before .before .before .before in
+    let c7 = c4 .before .before .before in
+    let c8 = c7 .before in
     let c9 = c8 .before in
     let c10 = c9 .before in
-    let c11 = c10 .before in
-    let c17 = c11 .before .before .before .before .before .before in
-    let a = c17 .args in
+    let c16 = c10 .before .before .before .before .before .before in
+    let a = c16 .args in
     let l = lent (tables (a .units .now) (a .slots .now)) (a .reply .now) in
     let k = asked (a .unit .0) (a .command .now) (a .token .now) in
-    open-judged l k (a .clock) _ (c11 .right-lengths .ensures) (c10 .if1 .taken) _ (c9 .right-token .ensures) (c8 .if2 .taken) _ (c4 .judge-and-answer .ensures)
+    open-judged l k (a .clock) _ (c10 .right-lengths .ensures) (c9 .if1 .taken) _ (c8 .right-token .ensures) (c7 .if2 .taken) _ (c4 .judge-and-answer .ensures)
 
 returns-2 : tie.Need-returns-2
 returns-2 c =
@@ -76,7 +73,6 @@ open-spec =
     judge-and-answer-requires
     same-length
     same-length-2
-    same-length-3
     returns
     returns-2
     returns-3)

@@ -16,13 +16,10 @@ same-length c = search needs
 same-length-2 : tie.Need-same-length-2
 same-length-2 c = search needs
 
-same-length-3 : tie.Need-same-length-3
-same-length-3 c = search needs
-
 returns : tie.Need-returns
-returns c = out-packed _ (c .before .before .before .before .before .before .before .«open» .result .answer) _ _ (c .pack .ensures) (c .before .before .before .before .before .before .before .«open» .ensures)
+returns c = out-packed _ (c .before .before .before .before .before .«open» .result .answer) _ _ (c .pack .ensures) (c .before .before .before .before .before .«open» .ensures)
 
 pub nn-open-spec : {M : Type 1} → statement M
 nn-open-spec =
     tie.close
-    (tie.spec open-requires pack-requires same-length same-length-2 same-length-3 returns)
+    (tie.spec open-requires pack-requires same-length same-length-2 returns)
