@@ -1,6 +1,6 @@
 #!/usr/bin/env python3
-"""Prints examples/story.txt: a listing of calls that tells how a guarded unit is used, from its first refusal to a change of keys, and how
-two lines of one owner share a set of keys.
+"""Prints examples/story.txt: a listing of calls that tells how a guarded unit is used, from its first refusal to a change of keys, how
+two lines of one owner share a set of keys, and how a damaged record is found.
 
 The capabilities are made here with Python's own hmac and hashlib, as the security manager of a store would make them (document 01,
 "Descriptor" and "Pages"); the program `replay` answers the listing. Run `make demo` to see each line with its answer.
@@ -21,6 +21,7 @@ SHARED_SEED = b"one seed for both..."
 AGREED = bytes(x * 7 % 256 for x in range(256))
 NOSEC, CAPKEY = 0, 1
 WRITE_10 = bytes.fromhex("2a000000080000010000")
+INQUIRY = bytes.fromhex("120000002400")
 UNKNOWN = bytes.fromhex("7f000000000000000000")
 SECURITY_OUT = 0xB5
 SET_ATTRIBUTES, SEED_EXCHANGE, SET_KEY, CHANGE = 0x0011, 0x0012, 0x0014, 0x0015
@@ -186,8 +187,9 @@ def shared_set():
 def shared_change(key):
     data = exchange_list(AGREED)
     auth_key, _ = next_pair(GEN_KEY, AGREED, KEEPER_IDENTIFIER)
-    say("Another write is parked at unit 3, in slot 0.")
+    say("Another write is parked at unit 3, in slot 0: there it waits for its data.")
     command(SHARER, 16000, wrapped(WRITE_10, key, 4, DATA_WRITE, 6, identifier=SHARER_IDENTIFIER))
+    print("show slot 0")
     say("Before its data come, the master keys are changed at unit 2: Seed Exchange, then Change.")
     command(KEEPER, 16001, out_command(SEED_EXCHANGE, data, AUTH_KEY, 5, KEEPER_IDENTIFIER))
     finish(1, 16002, data)
@@ -195,12 +197,30 @@ def shared_change(key):
     finish(1, 16004, CHANGE_LIST)
     say("That ended key 4 for both lines: the write at unit 3 is refused at its close, reason 14.")
     finish(0, 16005, bytes(8))
+    say("What the two records hold by now. Keys are never shown.")
+    print("show unit 2")
+    print("show unit 3")
+
+
+def damage():
+    say("A byte of unit 2's record is damaged: its policy access tag reads 7 and not 5. The check tells, and the unit refuses everything:\n"
+        "reason 1b. So does unit 3, whose own record is in order: its keeper is lost.")
+    print("poke units", KEEPER * 512 + 11, "07")
+    command(KEEPER, 17000, INQUIRY)
+    command(SHARER, 17001, INQUIRY)
+    print("show unit 2")
+    print("show unit 3")
+    say("Unit 2 is built anew, with keys of its own, and both answer again; working keys are to be set anew.")
+    build(KEEPER, CAPKEY, 5, KEEPER_IDENTIFIER)
+    command(SHARER, 17002, INQUIRY)
     say("The digests of the unit table, the slot table and the reply as all this left them.")
     print("state")
 
 
 def main():
-    print("# How a guarded unit is used, and how two share keys. Made by examples/story.py; `make demo` shows each line with its answer.")
+    print("# How a guarded unit is used, how two share keys, and how damage is found. Made by examples/story.py; `make demo` shows each line with its answer.")
+    say("Each refusal is to carry its reason's words.")
+    print("explain on")
     key = mac(GEN_KEY, SEED)
     guarded_unit()
     first_key()
@@ -209,6 +229,7 @@ def main():
     full_slots()
     after_change(key, *new_keys(key))
     shared_change(shared_set())
+    damage()
 
 
 main()

@@ -18,7 +18,7 @@ mkdir -p "$objects"
 # Only the library's functions are to be seen: what else it defines, such as a
 # panic handler, would clash with what the benches themselves are linked with.
 pulled='' shown=''
-for name in nectarnook_sha1 nectarnook_hmac_sha1 \
+for name in nn_sha1 nn_hmac_sha1 \
     nn_build nn_open nn_close nn_abort nn_reset; do
     pulled="$pulled -u $name"
     shown="$shown -G $name"

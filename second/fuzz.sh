@@ -1,5 +1,6 @@
 #!/bin/sh
-# Builds engine_fuzz from the proved code's static library and runs it.
+# Builds engine_fuzz from the proved code's static library and runs it. A
+# difference is written as a listing to target/fuzz/difference.txt here.
 # Usage: fuzz.sh CALLS SEED [STATIC_LIBRARY]
 # The library is by default ../target/staticlib/libnectarnook.a, seen from the
 # folder of this script.

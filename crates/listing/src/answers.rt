@@ -3,10 +3,47 @@
 use super::words::Fault;
 use model::Answer;
 use model::Sense;
+use text::line_of;
 use text::put;
+use text::put_decimal;
 use text::put_digits;
 use text::put_hex;
 use wire::least;
+
+// The words of the reasons 1, 1b, 2 to 4 and 6 to 19, a line each, as docs/MANUAL.md has them.
+const REASONS: [u8; 1186] = *b"\
+    the unit is above 7, or its record sound and unused\n\
+    the unit's record is unsound: damaged; or it shares keys, and its keeper's record is unsound, unused or itself a sharer's\n\
+    the command is empty or its code unknown\n\
+    its length is neither the CDB's nor 78 bytes more\n\
+    A2h, B5h: protocol byte 1 not 07h, page in bytes 2-3 unlisted, or bit 7 of byte 4 set\n\
+    no capability, and the unit is CAPKEY or the command wants a master key\n\
+    capability: format not 1h\n\
+    capability: method not CAPKEY where CAPKEY rules, else above 1\n\
+    capability: algorithm not 1, where CAPKEY rules\n\
+    capability: expiration not zero and below the clock\n\
+    capability: a needed permission bit of byte 32 is missing\n\
+    capability: policy tag not zero and not the unit's\n\
+    capability: type not 1h, length not 16, or identifier not the unit's\n\
+    no such key: the version has no valid key, a master command names another version than 0, or Change comes with no seed exchange pending\n\
+    the integrity check value differs\n\
+    B5h: bytes 6-9 are not the page's total\n\
+    IN page 0012h with no seed exchange pending in the unit's key set\n\
+    B5h: the data are not as long as bytes 6-9 say\n\
+    B5h: page code, page length, a field or a named zero of the data is wrong";
+
+// What can be wrong with a line, in the order of `Fault`.
+const FAULTS: [u8; 167] = *b"\n\
+    unknown word\n\
+    missing word\n\
+    surplus word\n\
+    not a number\n\
+    number too large\n\
+    not hex\n\
+    identifier of the wrong length\n\
+    key of the wrong length\n\
+    past the table's end\n\
+    line too long";
 
 // The bytes of s from a up to e, as far as it has them.
 pub fn part(s: &[u8], a: usize, e: usize) -> &[u8] {
@@ -15,78 +52,115 @@ pub fn part(s: &[u8], a: usize, e: usize) -> &[u8] {
     &s[start..end]
 }
 
-fn put_decimal(out: &mut [u8], at: usize, x: u64) -> usize {
-    let mut digits = [0u8; 20];
-    let k = io::decimal(x, &mut digits);
-    put(out, at, &digits[..k])
-}
-
-fn put_after_slash(out: &mut [u8], at: usize, b: u8) -> usize {
-    let n = put(out, at, b"/");
-    put_digits(out, n, b, b'A')
-}
-
-// Sense key, additional code and qualifier, and the reason, in decimal or `1b`.
+// Sense key, additional code and qualifier: parted by slashes, in upper case.
 fn put_sense(out: &mut [u8], at: usize, sense: Sense) -> usize {
-    let n = put(out, at, &[text::digit(sense.key % 16, b'A')]);
-    let n = put_after_slash(out, n, sense.code);
-    let n = put_after_slash(out, n, sense.qualifier);
+    let key = text::digit(sense.key % 16, b'A');
+    let n = put(out, at, &[b'A', b'3', b' ', b'0', b'2', b' ', key, b'/']);
+    let n = put_digits(out, n, sense.code, b'A');
+    let n = put(out, n, b"/");
+    let n = put_digits(out, n, sense.qualifier, b'A');
+    put(out, n, b" ")
+}
+
+// The reason, in decimal or `1b`.
+fn put_reason(out: &mut [u8], at: usize, reason: u8) -> usize {
+    if reason == 0x1b {
+        return put(out, at, b"1b");
+    }
+    put_decimal(out, at, reason as u64)
+}
+
+// The place of a reason's words in their list; a number that is no reason has none.
+fn reason_line(reason: u8) -> usize {
+    match reason {
+        1 => 0,
+        0x1b => 1,
+        2..=4 => reason as usize,
+        6..=19 => reason as usize - 1,
+        _ => 19,
+    }
+}
+
+// CHECK CONDITION: the sense, the reason and, where they are asked for, its words.
+fn check_text(out: &mut [u8], sense: Sense, explain: bool) -> usize {
+    let reason = sense.reason;
+    let n = put_sense(out, 0, sense);
+    let n = put_reason(out, n, reason);
+    if explain {
+        let n = put(out, n, b": ");
+        return put(out, n, line_of(&REASONS, reason_line(reason)));
+    }
+    n
+}
+
+// GOOD, handled here: the count, and the bytes that were written to the reply.
+fn good_text(out: &mut [u8], count: u32, reply: &[u8]) -> usize {
+    let n = put(out, 0, b"A0 00 ");
+    let n = put_decimal(out, n, count as u64);
     let n = put(out, n, b" ");
-    if sense.reason == 0x1b {
-        return put(out, n, b"1b");
-    }
-    put_decimal(out, n, sense.reason as u64)
+    put_hex(out, n, part(reply, 0, count as usize))
 }
 
-// The answer of a call: document 01's number and values, and for A0 the bytes that it wrote to the reply.
-pub fn answer_text(out: &mut [u8], answer: Answer, reply: &[u8]) -> usize {
+fn parked_text(out: &mut [u8], slot: u32) -> usize {
+    let n = put(out, 0, b"A1 ");
+    put_decimal(out, n, slot as u64)
+}
+
+// The answers that have no values, a line each, from A2 on; and the place of H1 to H5 among them.
+const PLAIN: [u8; 26] = *b"A2 00\nA4 28\nH1\nH2\nH3\nH4\nH5";
+
+fn plain_text(out: &mut [u8], place: usize) -> usize {
+    put(out, 0, line_of(&PLAIN, place))
+}
+
+// The answer of a call: document 01's number and values, and for A0 the bytes that it wrote to the reply. With `explain` an A3 has its
+// reason's words behind it.
+pub fn answer_text(out: &mut [u8], answer: Answer, reply: &[u8], explain: bool) -> usize {
     match answer {
-        Answer::Good(count) => {
-            let n = put(out, 0, b"A0 00 ");
-            let n = put_decimal(out, n, count as u64);
-            let n = put(out, n, b" ");
-            put_hex(out, n, part(reply, 0, count as usize))
-        }
-        Answer::Parked(slot) => {
-            let n = put(out, 0, b"A1 ");
-            put_decimal(out, n, slot.0 as u64)
-        }
-        Answer::Run => put(out, 0, b"A2 00"),
-        Answer::Check(sense) => {
-            let n = put(out, 0, b"A3 02 ");
-            put_sense(out, n, sense)
-        }
-        Answer::Full => put(out, 0, b"A4 28"),
-        Answer::H1 => put(out, 0, b"H1"),
-        Answer::H2 => put(out, 0, b"H2"),
-        Answer::H3 => put(out, 0, b"H3"),
-        Answer::H4 => put(out, 0, b"H4"),
-        Answer::H5 => put(out, 0, b"H5"),
+        Answer::Good(count) => good_text(out, count, reply),
+        Answer::Parked(slot) => parked_text(out, slot.0),
+        Answer::Check(sense) => check_text(out, sense, explain),
+        Answer::Run => plain_text(out, 0),
+        Answer::Full => plain_text(out, 1),
+        Answer::H1 => plain_text(out, 2),
+        Answer::H2 => plain_text(out, 3),
+        Answer::H3 => plain_text(out, 4),
+        Answer::H4 => plain_text(out, 5),
+        Answer::H5 => plain_text(out, 6),
     }
 }
 
-fn put_fault(out: &mut [u8], at: usize, fault: Fault) -> usize {
+fn fault_line(fault: Fault) -> usize {
     match fault {
-        Fault::Nothing => at,
-        Fault::UnknownWord => put(out, at, b"unknown word"),
-        Fault::MissingWord => put(out, at, b"missing word"),
-        Fault::SurplusWord => put(out, at, b"surplus word"),
-        Fault::NotANumber => put(out, at, b"not a number"),
-        Fault::NumberTooLarge => put(out, at, b"number too large"),
-        Fault::NotHex => put(out, at, b"not hex"),
-        Fault::IdentifierLength => put(out, at, b"identifier of the wrong length"),
-        Fault::KeyLength => put(out, at, b"key of the wrong length"),
-        Fault::PastTheEnd => put(out, at, b"past the table's end"),
-        Fault::LineTooLong => put(out, at, b"line too long"),
+        Fault::Nothing => 0,
+        Fault::UnknownWord => 1,
+        Fault::MissingWord => 2,
+        Fault::SurplusWord => 3,
+        Fault::NotANumber => 4,
+        Fault::NumberTooLarge => 5,
+        Fault::NotHex => 6,
+        Fault::IdentifierLength => 7,
+        Fault::KeyLength => 8,
+        Fault::PastTheEnd => 9,
+        Fault::LineTooLong => 10,
     }
 }
 
-// What is wrong with line n.
-pub fn fault_text(out: &mut [u8], n: u64, fault: Fault) -> usize {
+// What is wrong with line n, and with which of its words; word 0 is none.
+pub fn fault_text(out: &mut [u8], n: u64, word: u32, fault: Fault) -> usize {
     let at = put(out, 0, b"line ");
     let at = put_decimal(out, at, n);
+    let at = put_word(out, at, word);
     let at = put(out, at, b": ");
-    put_fault(out, at, fault)
+    put(out, at, line_of(&FAULTS, fault_line(fault)))
+}
+
+fn put_word(out: &mut [u8], at: usize, word: u32) -> usize {
+    if word == 0 {
+        return at;
+    }
+    let n = put(out, at, b": word ");
+    put_decimal(out, n, word as u64)
 }
 
 // The digests of the three buffers.

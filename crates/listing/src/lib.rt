@@ -1,5 +1,5 @@
 // A listing of calls: its lines read (`words`, `lines`), and what is printed for each (`answers`). One call to a line, words parted by
-// spaces; `#` starts a comment. docs/MANUAL.md has the words of each call and the answers.
+// spaces and tabs; `#` starts a comment. docs/MANUAL.md has the words of each call and the answers.
 mod answers;
 mod lines;
 mod words;

@@ -1,19 +1,19 @@
 // The lines of a listing: which call each asks for.
 use super::words::Fault;
 use super::words::Reading;
-use super::words::comment_start;
-use super::words::end_fault;
+use super::words::at_end;
+use super::words::behind;
 use super::words::is_wrong;
+use super::words::name_fault;
 use super::words::take_bytes;
 use super::words::take_exactly;
 use super::words::take_keeper;
 use super::words::take_number;
 use super::words::take_small;
-use super::words::word_at;
-use super::words::word_end;
 use super::words::wrong;
 use model::SlotNo;
 use model::UnitNo;
+use text::word_at;
 
 // The lent buffers, by name.
 pub enum Table {
@@ -23,7 +23,8 @@ pub enum Table {
 }
 
 // What a line asks for. Byte strings stand in the space lent for them, one after another; a number says where one ends. Build's are the
-// identifier, 16 bytes, and the two keys, 20 bytes each; its keeper is the field's value, zero or one more than the keeper's number.
+// identifier, 16 bytes, and the two keys, 20 bytes each; its keeper is the field's value, zero or one more than the keeper's number. A
+// wrong line has a word with a fault, or is as a whole too long.
 pub enum Call {
     Blank,
     Build {
@@ -51,24 +52,56 @@ pub enum Call {
         bytes: usize,
     },
     State,
-    Wrong(Fault),
+    ShowUnit(UnitNo),
+    ShowSlot(SlotNo),
+    ShowAll,
+    Explain(bool),
+    Wrong {
+        fault: Fault,
+        word: u32,
+    },
+}
+
+// The calls' own words, and those that name a table, what is shown and what explain is to be; each is told by its place in its list.
+const CALLS: [u8; 52] = *b"build\nopen\nclose\nabort\nreset\npoke\nstate\nshow\nexplain";
+
+const TABLES: [u8; 17] = *b"units\nslots\nreply";
+
+const SHOWN: [u8; 13] = *b"unit\nslot\nall";
+
+const SWITCHES: [u8; 6] = *b"on\noff";
+
+// The place of the word among the first n of a list's lines, or n.
+fn place_in(list: &[u8], n: usize, word: &[u8]) -> usize {
+    let mut i = 0;
+    while i < n {
+        if check::same(text::line_of(list, i), word) {
+            return i;
+        }
+        i += 1;
+    }
+    n
 }
 
 // The call of a line whose words were all read, or the line's fault.
 fn asked(line: &[u8], r: Reading, call: Call) -> Call {
-    let fault = end_fault(line, r);
+    let end = at_end(line, r);
+    let fault = end.fault;
     if is_wrong(fault) {
-        return Call::Wrong(fault);
+        return Call::Wrong {
+            fault,
+            word: end.word,
+        };
     }
     call
 }
 
 fn read_build(line: &[u8], r: Reading, space: &mut [u8]) -> Call {
-    let unit = take_small(line, r);
+    let unit = take_small(line, r, u32::MAX);
     let after_unit = unit.next;
-    let method = take_small(line, after_unit);
+    let method = take_small(line, after_unit, u32::MAX);
     let after_method = method.next;
-    let tag = take_small(line, after_method);
+    let tag = take_small(line, after_method, u32::MAX);
     let after_tag = tag.next;
     let identifier = take_exactly(line, after_tag, space, 16, Fault::IdentifierLength);
     let auth_key = take_exactly(line, identifier, space, 20, Fault::KeyLength);
@@ -85,7 +118,7 @@ fn read_build(line: &[u8], r: Reading, space: &mut [u8]) -> Call {
 }
 
 fn read_open(line: &[u8], r: Reading, space: &mut [u8]) -> Call {
-    let unit = take_small(line, r);
+    let unit = take_small(line, r, u32::MAX);
     let after_unit = unit.next;
     let clock = take_number(line, after_unit, u64::MAX);
     let after_clock = clock.next;
@@ -101,7 +134,7 @@ fn read_open(line: &[u8], r: Reading, space: &mut [u8]) -> Call {
 }
 
 fn read_close(line: &[u8], r: Reading, space: &mut [u8]) -> Call {
-    let slot = take_small(line, r);
+    let slot = take_small(line, r, u32::MAX);
     let after_slot = slot.next;
     let clock = take_number(line, after_slot, u64::MAX);
     let after_clock = clock.next;
@@ -115,56 +148,40 @@ fn read_close(line: &[u8], r: Reading, space: &mut [u8]) -> Call {
 }
 
 fn read_abort(line: &[u8], r: Reading) -> Call {
-    let slot = take_small(line, r);
+    let slot = take_small(line, r, u32::MAX);
     let after_slot = slot.next;
     asked(line, after_slot, Call::Abort(SlotNo(slot.value)))
 }
 
-// The table that the next word names.
-fn take_table(line: &[u8], r: Reading) -> Named {
-    let fault = r.fault;
-    let at = r.at;
-    let word = word_at(line, at);
-    let next = Reading {
-        at: word_end(line, at),
-        used: r.used,
-        fault,
-    };
-    if check::same(word, b"units") {
-        return Named {
-            table: Table::Units,
-            next,
-        };
-    }
-    if check::same(word, b"slots") {
-        return Named {
-            table: Table::Slots,
-            next,
-        };
-    }
-    if check::same(word, b"reply") {
-        return Named {
-            table: Table::Reply,
-            next,
-        };
-    }
-    Named {
-        table: Table::Reply,
-        next: wrong(next, name_fault(word)),
-    }
-}
-
-// A table that was named.
+// A word that is one of a list's, by its place; where it is none of them the reading has the fault, and the place is n.
 struct Named {
-    table: Table,
+    place: usize,
     next: Reading,
 }
 
-fn name_fault(word: &[u8]) -> Fault {
-    if word.len() == 0 {
-        return Fault::MissingWord;
+// The next word, which is to be one of the n of a list.
+fn take_name(line: &[u8], r: Reading, list: &[u8], n: usize) -> Named {
+    let at = r.at;
+    let word = word_at(line, at);
+    let place = place_in(list, n, word);
+    if place == n {
+        return Named {
+            place,
+            next: wrong(r, name_fault(word)),
+        };
     }
-    Fault::UnknownWord
+    Named {
+        place,
+        next: behind(line, r, r.used),
+    }
+}
+
+fn table_at(place: usize) -> Table {
+    match place {
+        0 => Table::Units,
+        1 => Table::Slots,
+        _ => Table::Reply,
+    }
 }
 
 fn table_len(table: Table) -> usize {
@@ -175,29 +192,25 @@ fn table_len(table: Table) -> usize {
     }
 }
 
-// The reading after the bytes of a poke: they must end within the table.
-fn placed(r: Reading, at: usize, len: usize) -> Reading {
-    let fault = r.fault;
-    if is_wrong(fault) {
-        return r;
+// The reading after the bytes of a poke, which must end within the table; else the fault is that of the bytes, which `r` is in front of.
+fn placed(r: Reading, next: Reading, at: usize, len: usize) -> Reading {
+    let fault = next.fault;
+    let fits = choice::and(at <= len, next.used <= len - wire::least(at, len));
+    if choice::or(is_wrong(fault), fits) {
+        return next;
     }
-    if len < at {
-        return wrong(r, Fault::PastTheEnd);
-    }
-    if len - at < r.used {
-        return wrong(r, Fault::PastTheEnd);
-    }
-    r
+    wrong(r, Fault::PastTheEnd)
 }
 
 fn read_poke(line: &[u8], r: Reading, space: &mut [u8]) -> Call {
-    let named = take_table(line, r);
-    let table = named.table;
+    let named = take_name(line, r, &TABLES, 3);
+    let table = table_at(named.place);
     let after_name = named.next;
-    let place = take_small(line, after_name);
+    let place = take_small(line, after_name, u32::MAX);
     let after_place = place.next;
     let at = place.value as usize;
-    let bytes = placed(take_bytes(line, after_place, space), at, table_len(table));
+    let taken = take_bytes(line, after_place, space);
+    let bytes = placed(after_place, taken, at, table_len(table));
     let call = Call::Poke {
         table,
         at,
@@ -206,39 +219,68 @@ fn read_poke(line: &[u8], r: Reading, space: &mut [u8]) -> Call {
     asked(line, bytes, call)
 }
 
+fn show_unit(line: &[u8], r: Reading) -> Call {
+    let unit = take_small(line, r, 7);
+    let after = unit.next;
+    asked(line, after, Call::ShowUnit(UnitNo(unit.value)))
+}
+
+fn show_slot(line: &[u8], r: Reading) -> Call {
+    let slot = take_small(line, r, 15);
+    let after = slot.next;
+    asked(line, after, Call::ShowSlot(SlotNo(slot.value)))
+}
+
+fn read_show(line: &[u8], r: Reading) -> Call {
+    let named = take_name(line, r, &SHOWN, 3);
+    let next = named.next;
+    let place = named.place;
+    match place {
+        0 => show_unit(line, next),
+        1 => show_slot(line, next),
+        _ => asked(line, next, Call::ShowAll),
+    }
+}
+
+fn read_explain(line: &[u8], r: Reading) -> Call {
+    let named = take_name(line, r, &SWITCHES, 2);
+    let next = named.next;
+    asked(line, next, Call::Explain(named.place == 0))
+}
+
+// The call whose own word has the place in the list of calls; the words behind it are read from r on.
+fn read_call(line: &[u8], place: usize, r: Reading, space: &mut [u8]) -> Call {
+    match place {
+        0 => read_build(line, r, space),
+        1 => read_open(line, r, space),
+        2 => read_close(line, r, space),
+        3 => read_abort(line, r),
+        4 => asked(line, r, Call::Reset),
+        5 => read_poke(line, r, space),
+        6 => asked(line, r, Call::State),
+        7 => read_show(line, r),
+        8 => read_explain(line, r),
+        _ => Call::Wrong {
+            fault: Fault::UnknownWord,
+            word: 1,
+        },
+    }
+}
+
 // The call that the line asks for. Its byte strings are laid into space, which has room for those of any line that is not too long.
 pub fn read(line: &[u8], space: &mut [u8]) -> Call {
-    let n = comment_start(line);
+    let n = bytes::scan::find(line, 0, line.len(), b'#');
     let words = &line[0..n];
     let first = word_at(words, 0);
     if first.len() == 0 {
         return Call::Blank;
     }
-    let r = Reading {
-        at: word_end(words, 0),
+    let start = Reading {
+        at: 0,
         used: 0,
+        word: 1,
         fault: Fault::Nothing,
     };
-    if check::same(first, b"build") {
-        return read_build(words, r, space);
-    }
-    if check::same(first, b"open") {
-        return read_open(words, r, space);
-    }
-    if check::same(first, b"close") {
-        return read_close(words, r, space);
-    }
-    if check::same(first, b"abort") {
-        return read_abort(words, r);
-    }
-    if check::same(first, b"reset") {
-        return asked(words, r, Call::Reset);
-    }
-    if check::same(first, b"poke") {
-        return read_poke(words, r, space);
-    }
-    if check::same(first, b"state") {
-        return asked(words, r, Call::State);
-    }
-    Call::Wrong(Fault::UnknownWord)
+    let place = place_in(&CALLS, 9, first);
+    read_call(words, place, behind(words, start, 0), space)
 }

@@ -1,7 +1,8 @@
 // The words of a line, one after another: numbers, byte strings, and what can be wrong with each.
+use text::word_at;
+use text::word_end;
 ghost use mathlib.Core.Path.{_≡_};
 ghost use Prim.Native.Nat.{_≤_};
-ghost use lib.ListN.{length};
 
 // Why a line can't be read. Nothing: as far as it was read, it can.
 pub enum Fault {
@@ -19,10 +20,11 @@ pub enum Fault {
 }
 
 // How far a line has been read: where the next word is looked for, how many bytes its byte strings have laid into the space lent for
-// them, and the first fault. Once there is one, reading goes no further.
+// them, the number of the next word, and the first fault. Once there is one, reading goes no further, and the number is the faulty word's.
 pub struct Reading {
     pub at: usize,
     pub used: usize,
+    pub word: u32,
     pub fault: Fault,
 }
 
@@ -39,96 +41,37 @@ pub fn is_wrong(fault: Fault) -> bool {
     }
 }
 
-// Where the line's comment starts, or its end.
-pub fn comment_start(line: &[u8]) -> usize
-    ensures { λ r. ⌜ r ≤ length (now (line .entry)) ⌝ }
-{
-    bytes::scan::find(line, 0, line.len(), b'#')
-}
-
-// The first place from `at` on that holds no space, or the line's end.
-fn word_start(line: &[u8], at: usize) -> usize
-    ensures { λ r. ⌜ r ≤ length (now (line .entry)) ⌝ }
-{
-    let mut i = at;
-    while i < line.len() {
-        if line[i] == b' ' {
-            i += 1;
-        } else {
-            return i;
-        }
-    }
-    line.len()
-}
-
-// Where the word that is next from `at` on ends.
-pub fn word_end(line: &[u8], at: usize) -> usize
-    ensures { λ r. ⌜ r ≤ length (now (line .entry)) ⌝ }
-{
-    let start = word_start(line, at);
-    bytes::scan::find(line, start, line.len(), b' ')
-}
-
-// The word that is next from `at` on; empty where there is none.
-pub fn word_at(line: &[u8], at: usize) -> &[u8] {
-    let start = word_start(line, at);
-    let end = bytes::scan::find(line, start, line.len(), b' ');
-    &line[start..end]
-}
-
-// ---- numbers
-
-fn all_digits(word: &[u8]) -> bool {
-    let mut i = 0;
-    while i < word.len() {
-        if 9 < text::value(word[i]) {
-            return false;
-        }
-        i += 1;
-    }
-    true
-}
-
-// A decimal number, and whether it was within its bound.
-struct Decimal {
-    value: u64,
-    fits: bool,
-}
-
-// The number that the digits of word say, if it is at most `most`.
-fn value_of(word: &[u8], most: u64) -> Decimal
-    ensures { λ r. ⌜ r .value ≤ most ⌝ }
-{
-    let mut value: u64 = 0;
-    let mut i = 0;
-    while i < word.len() {
-        let d = text::value(word[i]) as u64;
-        if most / 10 < value {
-            return Decimal {
-                value: 0,
-                fits: false,
-            };
-        }
-        if most - value * 10 < d {
-            return Decimal {
-                value: 0,
-                fits: false,
-            };
-        }
-        value = value * 10 + d;
-        i += 1;
-    }
-    Decimal { value, fits: true }
-}
-
 // The same reading with a fault.
 pub fn wrong(r: Reading, fault: Fault) -> Reading {
     Reading {
         at: r.at,
         used: r.used,
+        word: r.word,
         fault,
     }
 }
+
+// The reading behind the next word, with so many bytes used.
+pub fn behind(line: &[u8], r: Reading, used: usize) -> Reading {
+    let at = r.at;
+    let word = r.word;
+    Reading {
+        at: word_end(line, at),
+        used,
+        word: if word < u32::MAX { word + 1 } else { word },
+        fault: Fault::Nothing,
+    }
+}
+
+// The fault of the next word, which is to be one of a few: it is missing, or none of them.
+pub fn name_fault(word: &[u8]) -> Fault {
+    if word.len() == 0 {
+        return Fault::MissingWord;
+    }
+    Fault::UnknownWord
+}
+
+// ---- numbers
 
 fn no_number(r: Reading, fault: Fault) -> Number
     ensures { λ n. ⌜ n .value ≡ 0 ⌝ }
@@ -137,6 +80,25 @@ fn no_number(r: Reading, fault: Fault) -> Number
         value: 0,
         next: wrong(r, fault),
     }
+}
+
+// The fault of a word that is no number.
+fn number_fault(word: &[u8]) -> Fault {
+    if word.len() == 0 {
+        return Fault::MissingWord;
+    }
+    if text::all_digits(word, 10) {
+        return Fault::NumberTooLarge;
+    }
+    Fault::NotANumber
+}
+
+// Is the word a number of at most `most`?
+fn is_number(word: &[u8], fits: bool) -> bool {
+    choice::and(
+        fits,
+        choice::and(word.len() != 0, text::all_digits(word, 10)),
+    )
 }
 
 // The next word as a number of at most `most`.
@@ -149,25 +111,14 @@ pub fn take_number(line: &[u8], r: Reading, most: u64) -> Number
     }
     let at = r.at;
     let word = word_at(line, at);
-    if word.len() == 0 {
-        return no_number(r, Fault::MissingWord);
+    let said = text::number_of(word, most);
+    if is_number(word, said.fits) {
+        return Number {
+            value: said.value,
+            next: behind(line, r, r.used),
+        };
     }
-    if all_digits(word) {
-        let d = value_of(word, most);
-        if d.fits {
-            let next = Reading {
-                at: word_end(line, at),
-                used: r.used,
-                fault: Fault::Nothing,
-            };
-            return Number {
-                value: d.value,
-                next,
-            };
-        }
-        return no_number(r, Fault::NumberTooLarge);
-    }
-    no_number(r, Fault::NotANumber)
+    no_number(r, number_fault(word))
 }
 
 // A number of 32 bits that was read.
@@ -176,9 +127,11 @@ pub struct Small {
     pub next: Reading,
 }
 
-// The next word as a number of 32 bits.
-pub fn take_small(line: &[u8], r: Reading) -> Small {
-    let n = take_number(line, r, 0xffff_ffff);
+// The next word as a number of at most `most`.
+pub fn take_small(line: &[u8], r: Reading, most: u32) -> Small
+    ensures { λ n. ⌜ n .value ≤ most ⌝ }
+{
+    let n = take_number(line, r, most as u64);
     let next = n.next;
     Small {
         value: n.value as u32,
@@ -191,20 +144,12 @@ pub fn take_small(line: &[u8], r: Reading) -> Small {
 pub fn take_keeper(line: &[u8], r: Reading) -> Small {
     let fault = r.fault;
     let at = r.at;
-    if is_wrong(fault) {
-        return Small { value: 0, next: r };
-    }
-    if check::same(word_at(line, at), b"keeper") {
-        let after = Reading {
-            at: word_end(line, at),
-            used: r.used,
-            fault: Fault::Nothing,
-        };
-        let unit = take_number(line, after, 0xffff_fffe);
+    let asked = choice::and(!is_wrong(fault), check::same(word_at(line, at), b"keeper"));
+    if asked {
+        let unit = take_small(line, behind(line, r, r.used), 0xffff_fffe);
         let next = unit.next;
-        let number = unit.value as u32;
         return Small {
-            value: number + 1,
+            value: unit.value + 1,
             next,
         };
     }
@@ -228,11 +173,7 @@ pub fn take_bytes(line: &[u8], r: Reading, space: &mut [u8]) -> Reading {
     if end == text::BAD {
         return wrong(r, Fault::NotHex);
     }
-    Reading {
-        at: word_end(line, at),
-        used: end,
-        fault: Fault::Nothing,
-    }
+    behind(line, r, end)
 }
 
 // Does what stands from one place up to another have n bytes?
@@ -251,28 +192,22 @@ pub fn take_exactly(
     n: usize,
     otherwise: Fault,
 ) -> Reading {
-    let from = r.used;
     let next = take_bytes(line, r, space);
     let fault = next.fault;
-    if is_wrong(fault) {
+    let taken = choice::or(is_wrong(fault), spans(r.used, next.used, n));
+    if taken {
         return next;
     }
-    let end = next.used;
-    if spans(from, end, n) {
-        return next;
-    }
-    wrong(next, otherwise)
+    wrong(r, otherwise)
 }
 
-// The fault of a line whose words were all read: its first, or that there are more.
-pub fn end_fault(line: &[u8], r: Reading) -> Fault {
+// The reading of a line whose words were all read: its first fault, or that there are more.
+pub fn at_end(line: &[u8], r: Reading) -> Reading {
     let fault = r.fault;
-    if is_wrong(fault) {
-        return fault;
-    }
     let at = r.at;
-    if word_at(line, at).len() == 0 {
-        return Fault::Nothing;
+    let over = choice::or(is_wrong(fault), word_at(line, at).len() == 0);
+    if over {
+        return r;
     }
-    Fault::SurplusWord
+    wrong(r, Fault::SurplusWord)
 }

@@ -10,17 +10,17 @@ ghost use Rattle.slots.specs.Slot.{slotAt, isFree, isOpen, lowestFree, p
 ghost use Rattle.slots.specs.declared.SlotState.the-variants.{Open};
 
 // Where the fields of a slot's record stand (document 01, "Records of 512 bytes", Slot).
-const STATE: usize = 0;
+pub const STATE: usize = 0;
 
-const UNIT: usize = 2;
+pub const UNIT: usize = 2;
 
-const COMMAND_LENGTH: usize = 4;
+pub const COMMAND_LENGTH: usize = 4;
 
-const TOKEN_LENGTH: usize = 6;
+pub const TOKEN_LENGTH: usize = 6;
 
-const COMMAND: usize = 8;
+pub const COMMAND: usize = 8;
 
-const TOKEN: usize = 108;
+pub const TOKEN: usize = 108;
 
 const UNNAMED: usize = 172;
 
@@ -45,7 +45,7 @@ pub fn right_token(n: usize) -> bool
 }
 
 // Are the bytes zero that are left of the room from a on, where n are used?
-fn zero_past(rec: &[u8], a: usize, room: usize, n: usize) -> bool
+pub fn zero_past(rec: &[u8], a: usize, room: usize, n: usize) -> bool
     requires { ⌜ (a < 512) × (room < 512) ⌝ }
     ensures { λ r. ⌜ r ≡ zeros (room - n) (a + n) (now (rec .entry)) ⌝ }
 {

@@ -29,11 +29,11 @@ const IDENTIFIER: usize = 16;
 
 pub const AUTH_KEY: usize = 32;
 
-const GEN_KEY: usize = 52;
+pub const GEN_KEY: usize = 52;
 
 pub const NEXT_AUTH_KEY: usize = 72;
 
-const NEXT_GEN_KEY: usize = 92;
+pub const NEXT_GEN_KEY: usize = 92;
 
 pub const WORKING_KEYS: usize = 112;
 

@@ -1,20 +1,22 @@
 // The table of eight unit records: what a unit's record is, what makes one sound, and which keeps a unit's keys.
 mod fields;
 
-use fields::AUTH_KEY;
+pub use fields::AUTH_KEY;
 use fields::END;
+pub use fields::GEN_KEY;
 pub use fields::Key;
-use fields::LAYOUT;
-use fields::NEXT_AUTH_KEY;
-use fields::NUMBER;
-use fields::UNNAMED;
-use fields::WORKING_KEYS;
+pub use fields::LAYOUT;
+pub use fields::NEXT_AUTH_KEY;
+pub use fields::NEXT_GEN_KEY;
+pub use fields::NUMBER;
+pub use fields::UNNAMED;
+pub use fields::WORKING_KEYS;
 pub use fields::auth_key_of;
 pub use fields::clear_next_and_working;
 pub use fields::gen_key_of;
-use fields::has_bit;
+pub use fields::has_bit;
 pub use fields::identifier_of;
-use fields::keeper_field_of;
+pub use fields::keeper_field_of;
 pub use fields::mask_of;
 pub use fields::method_of;
 pub use fields::next_auth_key_of;

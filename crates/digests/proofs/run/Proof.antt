@@ -7,10 +7,10 @@ use Rattle.digests.proofs.run.Statement.{statement}
 use Rattle.digests.proofs.run.Tie as tie
 
 abbrev Inv-loop : tie.InvT-loop
-Inv-loop line₀ chunk₀ space₀ input₀ line chunk space input = (input .next ≤ input .end) × (input .end ≤ length chunk) × (length line ≡ length line₀) × (length chunk ≡ length chunk₀) × (length space ≡ length space₀)
+Inv-loop line₀ chunk₀ space₀ input₀ told₀ t7 line chunk space input told = (input .next ≤ input .end) × (input .end ≤ length chunk) × (length line ≡ length line₀) × (length chunk ≡ length chunk₀) × (length space ≡ length space₀)
 
 abbrev μ-loop : tie.MeasureT-loop
-μ-loop line₀ chunk₀ space₀ input₀ line chunk space input = input .left
+μ-loop line₀ chunk₀ space₀ input₀ told₀ t7 line chunk space input told = input .left
 
 at-start-requires : tie.Need-at-start-requires Inv-loop μ-loop
 at-start-requires c κs = search needs
@@ -35,6 +35,12 @@ loop-less-2 c = search needs
 
 loop-again-2 : tie.Need-loop-again-2 Inv-loop μ-loop
 loop-again-2 c = search needs
+
+slice-aggregate-report : tie.Need-slice-aggregate-report Inv-loop μ-loop
+slice-aggregate-report c = search needs
+
+report-requires : tie.Need-report-requires Inv-loop μ-loop
+report-requires c κs = search needs
 
 same-length : tie.Need-same-length Inv-loop μ-loop
 same-length c = search needs
@@ -62,6 +68,8 @@ run-spec =
     loop-again
     loop-less-2
     loop-again-2
+    slice-aggregate-report
+    report-requires
     same-length
     same-length-2
     same-length-3

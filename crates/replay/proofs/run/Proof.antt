@@ -7,13 +7,19 @@ use Rattle.replay.proofs.run.Statement.{statement}
 use Rattle.replay.proofs.run.Tie as tie
 
 abbrev Inv-loop : tie.InvT-loop
-Inv-loop line₀ chunk₀ units₀ slots₀ reply₀ input₀ n₀ line chunk units slots reply input n = (input .next ≤ input .end) × (input .end ≤ length chunk) × (length line ≡ length line₀) × (length chunk ≡ length chunk₀) × (length units ≡ length units₀) × (length slots ≡ length slots₀) × (length reply ≡ length reply₀)
+Inv-loop line₀ chunk₀ units₀ slots₀ reply₀ input₀ state₀ n₀ t10 line chunk units slots reply input state n =
+    (input .next ≤ input .end) × (input .end ≤ length chunk) × (length line ≡ length line₀) × (length chunk ≡ length chunk₀)
+    × (length units ≡ length units₀) × (length slots ≡ length slots₀) × (length reply ≡ length reply₀)
 
 abbrev μ-loop : tie.MeasureT-loop
-μ-loop line₀ chunk₀ units₀ slots₀ reply₀ input₀ n₀ line chunk units slots reply input n = input .left
+μ-loop line₀ chunk₀ units₀ slots₀ reply₀ input₀ state₀ n₀ t10 line chunk units slots reply input state n =
+    input .left
 
 at-start-requires : tie.Need-at-start-requires Inv-loop μ-loop
 at-start-requires c κs = search needs
+
+at-start-requires-2 : tie.Need-at-start-requires-2 Inv-loop μ-loop
+at-start-requires-2 c κs = search needs
 
 loop-holds : tie.Need-loop-holds Inv-loop μ-loop
 loop-holds c = search needs
@@ -21,8 +27,8 @@ loop-holds c = search needs
 next-line-requires : tie.Need-next-line-requires Inv-loop μ-loop
 next-line-requires c κs = search needs
 
-one-more-requires : tie.Need-one-more-requires Inv-loop μ-loop
-one-more-requires c κs = search needs
+counted-requires : tie.Need-counted-requires Inv-loop μ-loop
+counted-requires c κs = search needs
 
 obey-line-requires : tie.Need-obey-line-requires Inv-loop μ-loop
 obey-line-requires c κs = search needs
@@ -38,6 +44,12 @@ loop-less-2 c = search needs
 
 loop-again-2 : tie.Need-loop-again-2 Inv-loop μ-loop
 loop-again-2 c = search needs
+
+slice-aggregate-report : tie.Need-slice-aggregate-report Inv-loop μ-loop
+slice-aggregate-report c = search needs
+
+report-requires : tie.Need-report-requires Inv-loop μ-loop
+report-requires c κs = search needs
 
 same-length : tie.Need-same-length Inv-loop μ-loop
 same-length c = search needs
@@ -64,14 +76,17 @@ run-spec =
     Inv-loop
     μ-loop
     at-start-requires
+    at-start-requires-2
     loop-holds
     next-line-requires
-    one-more-requires
+    counted-requires
     obey-line-requires
     loop-less
     loop-again
     loop-less-2
     loop-again-2
+    slice-aggregate-report
+    report-requires
     same-length
     same-length-2
     same-length-3

@@ -12,8 +12,8 @@ Inv-loop line₀ chunk₀ used₀ rest₀ line chunk used rest = (rest .left ≤
 abbrev μ-loop : tie.MeasureT-loop
 μ-loop line₀ chunk₀ used₀ rest₀ line chunk used rest = rest .left
 
-sub-t10 : tie.Need-sub-t10 Inv-loop μ-loop
-sub-t10 c = search needs
+sub-t11 : tie.Need-sub-t11 Inv-loop μ-loop
+sub-t11 c = search needs
 
 loop-holds : tie.Need-loop-holds Inv-loop μ-loop
 loop-holds c = search needs
@@ -33,8 +33,8 @@ part-put-end c = search needs
 put-requires : tie.Need-put-requires Inv-loop μ-loop
 put-requires c κs = search needs
 
-add-t20 : tie.Need-add-t20 Inv-loop μ-loop
-add-t20 c = search needs
+add-t21 : tie.Need-add-t21 Inv-loop μ-loop
+add-t21 c = search needs
 
 same-length : tie.Need-same-length Inv-loop μ-loop
 same-length c = search needs
@@ -54,6 +54,9 @@ loop-less c = search needs
 loop-again : tie.Need-loop-again Inv-loop μ-loop
 loop-again c = search needs
 
+and-requires : tie.Need-and-requires Inv-loop μ-loop
+and-requires c κs = search needs
+
 same-length-3 : tie.Need-same-length-3 Inv-loop μ-loop
 same-length-3 c = search needs
 
@@ -69,20 +72,21 @@ next-line-spec =
     (tie.spec
     Inv-loop
     μ-loop
-    sub-t10
+    sub-t11
     loop-holds
     find-requires
     sub-put
     part-put-start
     part-put-end
     put-requires
-    add-t20
+    add-t21
     same-length
     same-length-2
     returns
     read-chunk-requires
     loop-less
     loop-again
+    and-requires
     same-length-3
     same-length-4
     returns-2)
