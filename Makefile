@@ -1,20 +1,50 @@
-# The commands that people and the gate use. README.md says what each is for.
-.PHONY: test demo embed hashes listings fuzz bench wrong
+# The commands that people and the gate use; `make` alone lists them. README.md says what each is for.
+.PHONY: help test check demo replay hashes vectors embed lib listings fuzz bench wrong clean
 
 SEED = 2
 CALLS = 1000000
 
+help:
+	@echo 'What there is to make, and how long it takes on two cores. What was proved before and has not changed is not proved again,'
+	@echo 'but by make test; the first time, demo, replay, embed and lib take some five minutes more.'
+	@echo
+	@echo '  make test                    the gate: all from nothing, wrong programs too     fifteen to twenty minutes'
+	@echo '  make check [CRATE=calls]     proves one crate and those that it uses, or all    up to two minutes a crate'
+	@echo '  make demo [IN=FILE]          a listing of calls, the answers between its lines  a second'
+	@echo '  make replay IN=FILE          the answers alone                                  a second'
+	@echo '  make hashes [IN=FILE]        SHA-1 and HMAC-SHA1 on request                     a second'
+	@echo '  make vectors                 the published vectors                              a second'
+	@echo '  make embed                   the store in C, examples/embed.c                   half a minute'
+	@echo '  make lib                     dist/: library, header and pkg-config file         half a minute'
+	@echo '  make fuzz [SEED=2] [CALLS=1000000]   the C face against the second engine       a minute'
+	@echo '  make bench                   how fast hashes and calls are                      some minutes'
+	@echo '  make wrong [CRATE=calls]     further programs that must not pass                some minutes a crate'
+	@echo '  make listings                makes the stored listings again                    a minute'
+	@echo '  make clean                   removes target/, second/target/ and dist/          a second'
+
 test:
 	@tools/test
+
+check:
+	@rt check $(CRATE)
 
 demo:
 	@tools/demo $(IN)
 
-embed:
-	@tools/embed
+replay:
+	@tools/replay $(IN)
 
 hashes:
 	@tools/hashes $(IN)
+
+vectors:
+	@tools/vectors
+
+embed:
+	@tools/embed
+
+lib:
+	@tools/lib
 
 listings:
 	@cd second && cargo build --release --offline --quiet --target-dir target --bin listings --bin engine_listings
@@ -31,3 +61,6 @@ bench:
 
 wrong:
 	@tools/wrong $(CRATE)
+
+clean:
+	@rm -rf target second/target dist

@@ -1,4 +1,5 @@
 -- The call build (document 01, "What a call gets and gives"; 02, K4): its answer and the unit table that it leaves, for any input.
+-- docs/RULES.md, 2.5.
 use mathlib.Core.Bool.{Bool, not}
 use mathlib.Core.List.{List}
 use Prim.Native.Nat.{ℕ, _+_, _-_, _*_}

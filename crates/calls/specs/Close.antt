@@ -1,5 +1,5 @@
 -- The call close (document 01): its answer and every lent byte that it leaves, for any input. H4 has no place: an open slot is sound only
--- with a data-out command.
+-- with a data-out command. docs/RULES.md, 5.4.
 use mathlib.Core.List.{List}
 use Prim.Native.Nat.{ℕ}
 use Rattle.choice.specs.Choice.{pick}

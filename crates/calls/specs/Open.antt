@@ -1,4 +1,4 @@
--- The call open (document 01): its answer and every lent byte that it leaves, for any input.
+-- The call open (document 01): its answer and every lent byte that it leaves, for any input. docs/RULES.md, 5.3.
 use mathlib.Core.Bool.{Bool}
 use mathlib.Core.List.{List, []}
 use Prim.Native.Nat.{ℕ}

@@ -1,4 +1,5 @@
 -- What calls are lent, and what they give: document 01's number and values of the answer, and every lent byte as it is left.
+-- docs/RULES.md, 1.1, 1.2.
 use mathlib.Core.Bool.{Bool}
 use mathlib.Core.List.{List}
 use Prim.Native.Nat.{ℕ}

@@ -1,5 +1,5 @@
 -- The calls abort and reset (document 01, "What a call gets and gives"): their answers and the slot table that they leave, for any
--- input.
+-- input. docs/RULES.md, 5.4.
 use mathlib.Core.Bool.{Bool}
 use mathlib.Core.List.{List}
 use Prim.Native.Nat.{ℕ}

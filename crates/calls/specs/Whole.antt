@@ -1,6 +1,6 @@
 -- A whole command, from document 01's rules and K4's alone. It is local, then stored: what it sees of the unit table, its token, data and
 -- clock give an answer, the bytes that are written at the reply's front, and the record that it makes anew; that record is then laid into
--- the table. Slots have no part in it.
+-- the table. Slots have no part in it. docs/RULES.md, 7.1.
 use mathlib.Core.Bool.{Bool, not}
 use mathlib.Core.List.{List, [], _∷_, _++_}
 use Prim.Native.Nat.{ℕ, _*_}

@@ -1,4 +1,4 @@
--- HMAC, after RFC 2104, section 2, over any hash.
+-- HMAC, after RFC 2104, section 2, over any hash. docs/RULES.md, 8.2.
 use Prim.Native.Nat.{ℕ, _+_, _-_}
 use mathlib.Core.List.{List, _++_, map}
 use lib.ListN.{length, replicate}

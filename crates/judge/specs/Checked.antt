@@ -1,6 +1,6 @@
 -- What a capability proves, each check in document 01's terms: that its command is listed, that it carries the permissions, hasn't
 -- expired, bears the unit's policy tag or none, names the unit, and verifies under a key. (Unit, below, is the statement that always
--- holds.)
+-- holds.) docs/RULES.md, 7.4.
 use mathlib.Core.Path.{_≡_}
 use mathlib.Core.Logic.{_⊎_}
 use mathlib.Core.Bool.{false}

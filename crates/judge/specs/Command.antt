@@ -1,5 +1,5 @@
 -- A command as it is judged (document 01, "Commands and what they need"): its code, its page, what it needs, whether it is bare, and what a
--- wrapped one brings behind its CDB.
+-- wrapped one brings behind its CDB. docs/RULES.md, 3.1, 3.2.
 use mathlib.Core.Bool.{Bool}
 use mathlib.Core.List.{List}
 use Prim.Native.Nat.{ℕ, _+_}

@@ -1,4 +1,4 @@
--- The capability descriptor (document 01, "Descriptor"): its 58 bytes, d.
+-- The capability descriptor (document 01, "Descriptor"): its 58 bytes, d. docs/RULES.md, 4.1.
 use mathlib.Core.List.{List}
 use Prim.Native.Nat.{ℕ, _/_, _%_}
 use lib.ListN.{getD}

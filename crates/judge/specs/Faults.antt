@@ -1,4 +1,4 @@
--- The faults of a capability (document 01, "Order of judgement", reasons 7 to 13), each over numbers and bytes.
+-- The faults of a capability (document 01, "Order of judgement", reasons 7 to 13), each over numbers and bytes. docs/RULES.md, 5.1.
 use mathlib.Core.Bool.{Bool, true, false, not}
 use mathlib.Core.List.{List}
 use Prim.Native.Nat.{ℕ, min}

@@ -1,5 +1,5 @@
 -- The judgement of an open: a list of tests, reasons 1 to 17 in document 01's order ("Order of judgement"), of which the first that applies
--- answers. The tests stand in groups; where 6 to 15 are skipped, the list is without them.
+-- answers. The tests stand in groups; where 6 to 15 are skipped, the list is without them. docs/RULES.md, 5.1, 5.2.
 use mathlib.Core.Bool.{Bool, true, false, not}
 use mathlib.Core.List.{List, [], _∷_, _++_}
 use Prim.Native.Nat.{ℕ, _/_, _%_, _^_}

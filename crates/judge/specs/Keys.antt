@@ -1,5 +1,5 @@
 -- The key that a command is checked under, and the check (document 01, "Order of judgement", reasons 14 and 15, and "Descriptor"). It is
--- looked for in the record that keeps the unit's keys (02, K4).
+-- looked for in the record that keeps the unit's keys (02, K4). docs/RULES.md, 4.2, 4.3.
 use mathlib.Core.Bool.{Bool, true}
 use mathlib.Core.List.{List}
 use Prim.Native.Nat.{ℕ}

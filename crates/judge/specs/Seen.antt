@@ -1,4 +1,4 @@
--- What a command at a unit sees of the unit table: all that its answer, its reply and the new records can depend on.
+-- What a command at a unit sees of the unit table: all that its answer, its reply and the new records can depend on. docs/RULES.md, 7.1.
 use mathlib.Core.List.{List}
 use Prim.Native.Nat.{ℕ}
 use Rattle.units.specs.declared.UnitState.{UnitState}

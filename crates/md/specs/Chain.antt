@@ -1,4 +1,4 @@
--- Merkle and Damgård's construction over blocks of 64 bytes: over any state S and any compression function f.
+-- Merkle and Damgård's construction over blocks of 64 bytes: over any state S and any compression function f. docs/RULES.md, 8.1.
 use Prim.Native.Nat.{ℕ, zero, suc, _*_, _/_, _%_, _^_}
 use mathlib.Core.Path.{_≡_}
 use mathlib.Core.List.{List}

@@ -1,4 +1,5 @@
 -- The padding of a message to whole blocks of 64 bytes, after FIPS 180-4, section 5.1.1, in bytes; SHA-1 and SHA-256 have the same.
+-- docs/RULES.md, 8.1.
 use Prim.Native.Nat.{ℕ, _+_, _-_, _*_, _/_, _%_, _^_}
 use mathlib.Core.List.{List, _∷_, _++_}
 use lib.ListN.{length, replicate}

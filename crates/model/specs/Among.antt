@@ -1,4 +1,4 @@
--- Membership in a list of numbers.
+-- Membership in a list of numbers. docs/RULES.md, 9.
 use Prim.Native.Nat.{ℕ}
 use mathlib.Core.Bool.{Bool, false}
 use mathlib.Core.List.{List, [], _∷_}

@@ -1,5 +1,5 @@
 -- What document 01's number of an answer says of it ("What a call gets and gives"): whether it is GOOD, whether it is final, and the
--- values that a caller reads off.
+-- values that a caller reads off. docs/RULES.md, 1.2.
 use mathlib.Core.Bool.{Bool, true, false}
 use Prim.Native.Nat.{ℕ}
 use lib.Dec.{eqb}

@@ -1,4 +1,5 @@
 -- How long a command of an operation code is, and which carry data out (document 01, "Commands and what they need").
+-- docs/RULES.md, 3.1, 3.3.
 use Prim.Native.Nat.{ℕ, _+_}
 use mathlib.Core.Bool.{Bool, false}
 use mathlib.Core.List.{List, [], _∷_}

@@ -1,4 +1,4 @@
--- The rows of the Controlled Commands page, IN page 0013h (document 01, "Pages").
+-- The rows of the Controlled Commands page, IN page 0013h (document 01, "Pages"). docs/RULES.md, 6.3.
 use Prim.Native.Nat.{ℕ, _/_, _%_}
 use mathlib.Core.Bool.{Bool}
 use mathlib.Core.List.{List, [], _∷_, _++_}

@@ -1,4 +1,4 @@
--- Document 01's number and values of each answer ("What a call gets and gives").
+-- Document 01's number and values of each answer ("What a call gets and gives"). docs/RULES.md, 1.2.
 use Prim.Native.Nat.{ℕ}
 use mathlib.Core.List.{List, [], _∷_}
 use Rattle.model.specs.declared.Answer.{Answer}

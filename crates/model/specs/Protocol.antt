@@ -1,4 +1,4 @@
--- SECURITY PROTOCOL IN and OUT and the codes of their pages, by name (document 01, "Commands and what they need").
+-- SECURITY PROTOCOL IN and OUT and the codes of their pages, by name (document 01, "Commands and what they need"). docs/RULES.md, 3.2.
 use Prim.Native.Nat.{ℕ}
 
 abbrev pub protocolIn : ℕ

@@ -1,4 +1,4 @@
--- The answer of each reason (document 01, "Order of judgement").
+-- The answer of each reason (document 01, "Order of judgement"). docs/RULES.md, 5.1.
 use Prim.Native.Nat.{ℕ}
 use mathlib.Core.List.{[], _∷_}
 use lib.Dec.{eqb}

@@ -1,4 +1,4 @@
--- The 31 rows of commands and what they need (document 01, "Commands and what they need"), and what is read from them.
+-- The 31 rows of commands and what they need (document 01, "Commands and what they need"), and what is read from them. docs/RULES.md, 3.2.
 use Prim.Native.Nat.{ℕ}
 use mathlib.Core.Bool.{Bool, true, false, not}
 use mathlib.Core.List.{List, [], _∷_, _++_, map}

@@ -1,4 +1,4 @@
--- How long the parameter list of each Out page is (document 01, "Pages").
+-- How long the parameter list of each Out page is (document 01, "Pages"). docs/RULES.md, 6.1.
 use Prim.Native.Nat.{ℕ}
 use lib.Dec.{eqb}
 use Rattle.choice.specs.Choice.{pick}

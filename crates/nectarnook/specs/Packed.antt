@@ -1,5 +1,5 @@
 -- The number that a call of the C face returns: document 01's number and values of the answer, packed into 64 bits; and what such a
--- call gives, that number with every lent byte as it is left.
+-- call gives, that number with every lent byte as it is left. docs/RULES.md, 1.2.
 use mathlib.Core.List.{List}
 use Prim.Native.Nat.{ℕ, _+_, _*_, _%_, _^_}
 use lib.Dec.{eqb}

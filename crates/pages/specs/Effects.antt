@@ -1,5 +1,5 @@
 -- What a GOOD Out page makes of a unit's attributes and of a key set (document 01, "Pages", Effects): all that is not named is kept, and
--- the check is made anew.
+-- the check is made anew. docs/RULES.md, 6.2.
 use mathlib.Core.List.{List, [], _∷_, _++_}
 use Prim.Native.Nat.{ℕ, _+_, _-_, _/_, _%_, _^_}
 use lib.Dec.{eqb}

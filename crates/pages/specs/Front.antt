@@ -1,4 +1,5 @@
 -- What stands at the front of a parameter list (document 01, "Pages"): page code, page length, and three numbers of the page's own widths.
+-- docs/RULES.md, 6.1.
 use mathlib.Core.Path.{_≡_}
 use mathlib.Core.List.{List}
 use Prim.Native.Nat.{ℕ, _+_}

@@ -1,4 +1,4 @@
--- The In pages (document 01, "Pages"): each to the byte, and the reply that is cut from one.
+-- The In pages (document 01, "Pages"): each to the byte, and the reply that is cut from one. docs/RULES.md, 6.3, 6.4.
 use mathlib.Core.List.{List, [], _∷_, _++_}
 use Prim.Native.Nat.{ℕ}
 use lib.Dec.{eqb}

@@ -1,4 +1,4 @@
--- The parameter lists of the Out pages (document 01, "Pages"): the fields of a list d, and what is wrong with one.
+-- The parameter lists of the Out pages (document 01, "Pages"): the fields of a list d, and what is wrong with one. docs/RULES.md, 6.1.
 use mathlib.Core.Bool.{Bool, not}
 use mathlib.Core.List.{List}
 use Prim.Native.Nat.{ℕ, _-_}

@@ -1,4 +1,4 @@
--- What each call of a run answers, from the unit table and the ledger alone: no byte of a slot is read.
+-- What each call of a run answers, from the unit table and the ledger alone: no byte of a slot is read. docs/RULES.md, 7.2.
 use mathlib.Core.Path.{_≡_}
 use mathlib.Core.Bool.{Bool, true, false}
 use mathlib.Core.Option.{Option, none, some}

@@ -1,5 +1,5 @@
 -- Where tables start (document 01: build replaces the record that stood there, reset makes every slot free): a unit table with no unit
--- used, and units built into it one after another.
+-- used, and units built into it one after another. docs/RULES.md, 7.4.
 use mathlib.Core.Path.{_≡_}
 use mathlib.Core.List.{List, [], _∷_, _++_}
 use Prim.Native.Nat.{ℕ, zero, suc, _<_, _^_}

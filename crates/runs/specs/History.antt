@@ -1,5 +1,5 @@
 -- The key history of a key set: the keys that the starting keys and the GOOD key commands since say are valid, by version. It has no
--- mask, no place and no byte of a later record; who shares which set is read from the starting table.
+-- mask, no place and no byte of a later record; who shares which set is read from the starting table. docs/RULES.md, 7.3.
 use mathlib.Core.Path.{_≡_}
 use mathlib.Core.Bool.{Bool, true, false}
 use mathlib.Core.Option.{Option, none, some}

@@ -1,5 +1,5 @@
 -- What the history of calls alone tells of a run: which command is parked in which slot (the ledger), and which whole commands the run
--- amounts to. Neither reads a byte of a table but the ledger's start.
+-- amounts to. Neither reads a byte of a table but the ledger's start. docs/RULES.md, 7.2.
 use mathlib.Core.Path.{_≡_}
 use mathlib.Core.Option.{Option, none, some}
 use mathlib.Core.List.{List, [], _∷_, _++_}

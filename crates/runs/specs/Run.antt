@@ -1,4 +1,4 @@
--- Sequences of calls: what a run of opens, closes, aborts and resets is, and the premise that runs start from.
+-- Sequences of calls: what a run of opens, closes, aborts and resets is, and the premise that runs start from. docs/RULES.md, 7.4.
 use mathlib.Core.Path.{_≡_}
 use mathlib.Core.Bool.{Bool, true, false}
 use mathlib.Core.List.{List, [], _∷_}

@@ -1,4 +1,4 @@
--- The check of a record of 512 bytes (document 01, "Records of 512 bytes"): bytes 492-511 are the SHA-1 of bytes 0-491.
+-- The check of a record of 512 bytes (document 01, "Records of 512 bytes"): bytes 492-511 are the SHA-1 of bytes 0-491. docs/RULES.md, 2.1.
 use Prim.Native.Nat.{ℕ}
 use mathlib.Core.Bool.{Bool}
 use mathlib.Core.List.{List}

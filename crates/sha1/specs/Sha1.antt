@@ -1,4 +1,4 @@
--- SHA-1, after FIPS 180-4, section by section. Each definition is to be held against the section that it names.
+-- SHA-1, after FIPS 180-4, section by section. Each definition is to be held against the section that it names. docs/RULES.md, 8.1.
 use Prim.Native.Nat.{ℕ, zero, suc, _+_, _-_, _*_, _/_}
 use mathlib.Core.List.{List, [], _∷_, _++_}
 use lib.ListN.{length, getD}

@@ -1,4 +1,4 @@
--- Slot records (document 01, "Records of 512 bytes", Slot): fields, soundness, an open one, and the slot table.
+-- Slot records (document 01, "Records of 512 bytes", Slot): fields, soundness, an open one, and the slot table. docs/RULES.md, 2.4.
 use mathlib.Core.Bool.{Bool, true, false}
 use mathlib.Core.List.{List, _++_}
 use Prim.Native.Nat.{ℕ, zero, suc, _+_, _*_, _-_}

@@ -1,4 +1,5 @@
 -- A used unit's record as ordinary values: the fields that it holds, and the record that holds them (RoundLaws: each undoes the other).
+-- docs/RULES.md, 2.2, 2.5.
 use mathlib.Core.List.{List, _++_}
 use Prim.Native.Nat.{ℕ}
 use lib.Dec.{eqb}

@@ -1,4 +1,5 @@
 -- Unit records (document 01, "Records of 512 bytes", Unit; 02, K4): fields, soundness, and the unit table with the key set of each unit.
+-- docs/RULES.md, 2.2, 2.3.
 use mathlib.Core.Bool.{Bool, true, false}
 use mathlib.Core.List.{List, _++_}
 use Prim.Native.Nat.{ℕ, zero, suc, _+_, _-_, _*_, _/_, _%_, _^_}

@@ -1,5 +1,5 @@
 -- Words of 32 bits, after FIPS 180-4: operations (section 2.2.2), the three functions that SHA-1's four are made of (4.1.1),
--- and the big-endian order of a word's bytes (3.1). A word is a number below 2^32. The checker can compute all of it.
+-- and the big-endian order of a word's bytes (3.1). A word is a number below 2^32. The checker can compute all of it. docs/RULES.md, 8.1.
 use Prim.Native.Nat.{ℕ, zero, suc, _+_, _-_, _*_, _/_, _%_, _^_, min, max}
 use mathlib.Core.List.{List}
 use Rattle.wire.specs.Bytes.{number, bytesOf}
