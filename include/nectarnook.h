@@ -94,8 +94,8 @@ extern "C" {
 
 #define NN_ANSWER(result) ((unsigned)((result) & 0xff))
 
-/* The status byte for the initiator, where there is one. Beside A1 and H1 to H5 it is 00h because there is none: that is no GOOD. A store
- * that forwards it unread answers GOOD to a command that nothing has run, so ask NN_HAS_STATUS first. */
+/* The status byte for the initiator, where there is one: of nn_open and nn_close alone. Beside A1 and H1 to H5 it is 00h because there is
+ * none: that is no GOOD. A store that forwards it unread answers GOOD to a command that nothing has run, so ask NN_HAS_STATUS first. */
 #define NN_STATUS(result) ((unsigned)((result) >> 8 & 0xff))
 #define NN_HAS_STATUS(result) (NN_ANSWER(result) <= NN_A4 && NN_ANSWER(result) != NN_A1)
 
@@ -123,7 +123,9 @@ extern "C" {
  *   H4  the slot holds a command that takes no data. No call gives it: such a slot is unsound, and so H3
  *   H5  build: the unit is above 7, the method above 1, or the keeper one that may not be (nn_build)
  *
- * A0 to A4 are for the initiator; H1 to H5 tell the store that it called wrongly, and they change no byte. */
+ * A0 to A4 of nn_open and nn_close are about the command (A1: no status yet). A0 of nn_build, nn_abort and nn_reset is for the store alone,
+ * and never a status for a command: one that was aborted has none from here. H1 to H5 tell the store that it called wrongly, H3 also that a
+ * slot's record is damaged, and they change no byte. */
 #define NN_A0 0x00
 #define NN_A1 0x01
 #define NN_A2 0x02
@@ -201,8 +203,8 @@ uint64_t nn_build(uint8_t *units, size_t units_len, uint32_t unit, uint32_t meth
  *          A3  with a reason from 1 to 17, or 1Bh
  *          A1  a command that carries data out passed, and waits in that slot, the lowest that is free: hand its data to nn_close
  *          A4  it passed, and no slot is free
- *          A0  a page of SECURITY PROTOCOL IN other than 0012h passed: its first NN_COUNT bytes stand in the reply, as many as the page
- *              has or as bytes 6-9 of the command allow
+ *          A0  a page of SECURITY PROTOCOL IN other than 0012h passed: its first NN_COUNT bytes stand in the reply, the smaller of
+ *              the page's size and bytes 6-9 of the command
  *          A2  any other command passed: run it
  * Leaves:  A0 the reply's first NN_COUNT bytes new; A1 that slot new; everything else is kept, by the other answers every byte.
  */

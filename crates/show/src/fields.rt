@@ -6,6 +6,18 @@ ghost use lib.ListN.{length};
 ghost use mathlib.Core.Path.{_≡_};
 ghost use Prim.Native.Nat.{_<_};
 
+// The first line's beginning: what is shown, by its number.
+pub fn put_title(out: &mut [u8], at: usize, what: &[u8], number: u32) -> usize {
+    let n = put(out, at, what);
+    put_decimal(out, n, number as u64)
+}
+
+// So many bytes.
+pub fn put_bytes(out: &mut [u8], at: usize, count: u16) -> usize {
+    let n = put_decimal(out, at, count as u64);
+    put(out, n, b" bytes")
+}
+
 // A line's beginning: its name, and a colon.
 fn put_label(out: &mut [u8], at: usize, name: &[u8]) -> usize {
     let n = put(out, at, b"\n  ");

@@ -1,5 +1,5 @@
-// Records in plain lines: every field by its name, and of an unsound record which part of soundness fails first. Keys are never shown,
-// only whether they are zero. docs/MANUAL.md has the lines.
+// Records in plain lines: every field by its name, and of an unsound record which part of soundness fails first. The key fields are
+// never shown, only whether they are zero. docs/MANUAL.md has the lines.
 mod fields;
 mod parts;
 mod slot;

@@ -1,13 +1,14 @@
 // A slot's record in plain lines.
 use super::SlotPart;
+use super::fields::put_bytes;
 use super::fields::put_name;
 use super::fields::put_number;
+use super::fields::put_title;
 use super::parts::slot_part;
 use model::SlotNo;
 use slots::SlotState;
 use text::line_of;
 use text::put;
-use text::put_decimal;
 use text::put_digits;
 ghost use mathlib.Core.Path.{_≡_};
 ghost use Prim.Native.Nat.{_<_};
@@ -104,8 +105,7 @@ fn put_command(out: &mut [u8], at: usize, rec: &[u8]) -> usize {
     let n = put_name(out, at, b"command");
     let n = put_code(out, n, rec, code);
     let n = put(out, n, b", ");
-    let n = put_decimal(out, n, length as u64);
-    let n = put(out, n, b" bytes");
+    let n = put_bytes(out, n, length);
     put_form(out, n, code, length as usize)
 }
 
@@ -142,41 +142,47 @@ fn put_fields(out: &mut [u8], at: usize, rec: &[u8]) -> usize {
     let n = put_number(out, at, b"state", wire::be16(rec, slots::STATE) as u64);
     let n = put_number(out, n, b"unit", wire::be16(rec, slots::UNIT) as u64);
     let n = put_command(out, n, rec);
-    let n = put_number(
-        out,
-        n,
-        b"token",
-        wire::be16(rec, slots::TOKEN_LENGTH) as u64,
-    );
-    put(out, n, b" bytes")
+    let n = put_name(out, n, b"token");
+    put_bytes(out, n, wire::be16(rec, slots::TOKEN_LENGTH))
 }
 
-// The record of a slot: one line where it is free, else what it is and then its fields, as they stand.
-fn put_record(out: &mut [u8], at: usize, slots: &[u8], slot: SlotNo) -> usize
-    requires { ⌜ (length (now slots) ≡ 8192) × (slot .0 < 16) ⌝ }
-{
-    let n = put(out, at, b"slot ");
-    let at = put_decimal(out, n, slot.0 as u64);
-    let rec = slots::record_of(slots, slot);
-    match slots::slot_state(rec) {
+// What the slot's record is, and where it is open or unsound its fields, as they stand.
+fn put_record(out: &mut [u8], at: usize, rec: &[u8], state: SlotState, part: SlotPart) -> usize {
+    match state {
         SlotState::Free => put(out, at, b": free"),
-        SlotState::Open => {
-            let n = put(out, at, b": open");
-            put_fields(out, n, rec)
-        }
-        SlotState::Unsound => {
-            let n = put(out, at, b": unsound: ");
-            let n = put_part(out, n, slot_part(slots, slot));
-            put_fields(out, n, rec)
-        }
+        SlotState::Open => put_open(out, at, rec),
+        SlotState::Unsound => put_unsound(out, at, rec, part),
     }
 }
 
-// The record of a slot in the slot table, in plain lines. Of a slot above 15, or of a table of another length, nothing.
+fn put_open(out: &mut [u8], at: usize, rec: &[u8]) -> usize {
+    let n = put(out, at, b": open");
+    put_fields(out, n, rec)
+}
+
+fn put_unsound(out: &mut [u8], at: usize, rec: &[u8], part: SlotPart) -> usize {
+    let n = put(out, at, b": unsound: ");
+    let n = put_part(out, n, part);
+    put_fields(out, n, rec)
+}
+
+// The record of a slot of 0 to 15 in a table of 8,192 bytes.
+fn put_there(out: &mut [u8], at: usize, slots: &[u8], slot: SlotNo) -> usize
+    requires { ⌜ (length (now slots) ≡ 8192) × (slot .0 < 16) ⌝ }
+{
+    let part = slot_part(slots, slot);
+    let rec = slots::record_of(slots, slot);
+    let state = slots::slot_state(rec);
+    let n = put_title(out, at, b"slot ", slot.0);
+    put_record(out, n, rec, state, part)
+}
+
+// The record of a slot in the slot table, in plain lines: one where it is free, else what it is and then its fields. Of a slot above 15,
+// or of a table of another length, nothing.
 pub fn put_slot(out: &mut [u8], at: usize, slots: &[u8], slot: SlotNo) -> usize {
     let there = choice::and(slots.len() == 8192, slot.0 < 16);
     if there {
-        return put_record(out, at, slots, slot);
+        return put_there(out, at, slots, slot);
     }
     at
 }

@@ -4,6 +4,7 @@ use super::fields::keys_not_zero;
 use super::fields::put_key;
 use super::fields::put_name;
 use super::fields::put_number;
+use super::fields::put_title;
 use super::fields::put_versions;
 use super::parts::unit_part;
 use model::UnitNo;
@@ -85,22 +86,7 @@ fn put_masters(out: &mut [u8], at: usize, rec: &[u8]) -> usize {
 fn put_keys(out: &mut [u8], at: usize, rec: &[u8]) -> usize
     requires { ⌜ length (now rec) ≡ 512 ⌝ }
 {
-    let n = put_key(out, at, b"authentication master key", rec, units::AUTH_KEY);
-    let n = put_key(out, n, b"generation master key", rec, units::GEN_KEY);
-    let n = put_key(
-        out,
-        n,
-        b"next authentication master key",
-        rec,
-        units::NEXT_AUTH_KEY,
-    );
-    let n = put_key(
-        out,
-        n,
-        b"next generation master key",
-        rec,
-        units::NEXT_GEN_KEY,
-    );
+    let n = put_masters(out, at, rec);
     let n = put_versions(
         out,
         n,
@@ -146,32 +132,49 @@ fn put_fields(out: &mut [u8], at: usize, rec: &[u8]) -> usize
     put_keys(out, n, rec)
 }
 
-// The record of a unit: one line where it is unused, else what it is and then its fields, as they stand.
-fn put_record(out: &mut [u8], at: usize, units: &[u8], unit: UnitNo) -> usize
-    requires { ⌜ (length (now units) ≡ 4096) × (unit .0 < 8) ⌝ }
+// What the unit's record is in its table, and where it is in use or unsound its fields, as they stand.
+fn put_record(out: &mut [u8], at: usize, rec: &[u8], state: UnitState, part: UnitPart) -> usize
+    requires { ⌜ length (now rec) ≡ 512 ⌝ }
 {
-    let n = put(out, at, b"unit ");
-    let at = put_decimal(out, n, unit.0 as u64);
-    let rec = units::record_of(units, unit);
-    match units::unit_state(units, unit) {
+    match state {
         UnitState::Unused => put(out, at, b": unused"),
-        UnitState::Used => {
-            let n = put(out, at, b": used");
-            put_fields(out, n, rec)
-        }
-        UnitState::Unsound => {
-            let n = put(out, at, b": unsound: ");
-            let n = put_part(out, n, unit_part(units, unit));
-            put_fields(out, n, rec)
-        }
+        UnitState::Used => put_used(out, at, rec),
+        UnitState::Unsound => put_unsound(out, at, rec, part),
     }
 }
 
-// The record of a unit in the unit table, in plain lines. Of a unit above 7, or of a table of another length, nothing.
+fn put_used(out: &mut [u8], at: usize, rec: &[u8]) -> usize
+    requires { ⌜ length (now rec) ≡ 512 ⌝ }
+{
+    let n = put(out, at, b": used");
+    put_fields(out, n, rec)
+}
+
+fn put_unsound(out: &mut [u8], at: usize, rec: &[u8], part: UnitPart) -> usize
+    requires { ⌜ length (now rec) ≡ 512 ⌝ }
+{
+    let n = put(out, at, b": unsound: ");
+    let n = put_part(out, n, part);
+    put_fields(out, n, rec)
+}
+
+// The record of a unit of 0 to 7 in a table of 4,096 bytes.
+fn put_there(out: &mut [u8], at: usize, units: &[u8], unit: UnitNo) -> usize
+    requires { ⌜ (length (now units) ≡ 4096) × (unit .0 < 8) ⌝ }
+{
+    let part = unit_part(units, unit);
+    let state = units::unit_state(units, unit);
+    let rec = units::record_of(units, unit);
+    let n = put_title(out, at, b"unit ", unit.0);
+    put_record(out, n, rec, state, part)
+}
+
+// The record of a unit in the unit table, in plain lines: one where it is unused, else what it is and then its fields. Of a unit above 7,
+// or of a table of another length, nothing.
 pub fn put_unit(out: &mut [u8], at: usize, units: &[u8], unit: UnitNo) -> usize {
     let there = choice::and(units.len() == 4096, unit.0 < 8);
     if there {
-        return put_record(out, at, units, unit);
+        return put_there(out, at, units, unit);
     }
     at
 }

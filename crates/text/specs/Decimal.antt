@@ -7,7 +7,7 @@ use Rattle.io.specs.Digits.{digits, Fewest}
 use Rattle.text.specs.Place.{placeBehind, withText}
 use Rattle.text.specs.Hex.{value}
 
--- the number that the first n digits of s say
+-- the number that the first n bytes of s say, where these are digits (`allDigits 10`); of other bytes it says nothing of use
 unfoldable pub decimalOf : ℕ → List ℕ → ℕ
 decimalOf zero s = 0
 decimalOf (suc n) s = decimalOf n s * 10 + value (getD s n 0)

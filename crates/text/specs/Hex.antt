@@ -31,7 +31,7 @@ digitsOf (suc n) l = digitsOf n l ++ twoDigits 0x61 (getD l n 0)
 unfoldable pub hexText : List ℕ → List ℕ
 hexText l = pick (eqb (length l) 0) (0x2d ∷ []) (digitsOf (length l) l)
 
--- do the first n bytes of s all say a value below base?
+-- do the first n bytes of s all say a value below base, which is 10 or 16? (Above 16 every byte would.)
 unfoldable pub allDigits : ℕ → ℕ → List ℕ → Bool
 allDigits base zero s = true
 allDigits base (suc n) s = both (allDigits base n s) (ltb (value (getD s n 0)) base)
@@ -56,7 +56,7 @@ isHex s = either (isDash s) (arePairs s)
 unfoldable pub hexBytes : List ℕ → List ℕ
 hexBytes s = pick (isDash s) [] (bytesIn (length s / 2) s)
 
--- the place behind the bytes that s says, put into out from `at` on, and out with them; no place, and out as it was, where s says none
+-- the place behind the bytes that s says, put into out from `at` on, and out with them; no place, and out as it was, where s is no hex
 unfoldable pub unhexPlace : List ℕ → List ℕ → ℕ → ℕ
 unhexPlace s out at = pick (isHex s) (placeBehind out at (hexBytes s)) bad
 

@@ -1,4 +1,4 @@
--- Laws of hex digits: each is read as what it was written for, so bytes as text are read back as the same bytes.
+-- Laws of hex digits: each in lower case is read as what it was written for, so bytes as text are read back as the same bytes.
 use mathlib.Core.Path.{_≡_, refl, _∙_, sym, ap, ap₂}
 use mathlib.Core.Logic.{_⊎_, inl, inr, ⊎-elim}
 use mathlib.Core.Bool.{Bool, true, false, not}

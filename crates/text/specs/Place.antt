@@ -7,7 +7,7 @@ use lib.ListN.{length}
 use Rattle.choice.specs.Choice.{pick}
 use Rattle.wire.specs.Bytes.{patch}
 
--- no place: what is answered where out has no room, or where there is nothing to put
+-- no place: what is answered where out has no room, or where the text is no hex
 abbrev pub bad : ℕ
 bad = 18446744073709551615
 

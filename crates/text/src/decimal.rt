@@ -24,7 +24,7 @@ fn too_large() -> Decimal
     }
 }
 
-// The number that the digits of word say, if it is at most `most`.
+// The number that the digits of word say, if it is at most `most`. Of a word that is not all digits (all_digits) it says nothing of use.
 pub fn number_of(word: &[u8], most: u64) -> Decimal
     ensures { λ r. ⌜ r .fits ≡ leb (decimalOf (length (now (word .entry))) (now (word .entry))) most ⌝ }
     ensures { λ r. ⌜ r .value ≡ pick (r .fits) (decimalOf (length (now (word .entry))) (now (word .entry))) 0 ⌝ }

@@ -9,8 +9,8 @@ use Rattle.show.proofs.unit.put_unit.Tie as tie
 and-requires : tie.Need-and-requires
 and-requires c κs = search needs
 
-put-record-requires : tie.Need-put-record-requires
-put-record-requires c κs =
+put-there-requires : tie.Need-put-there-requires
+put-there-requires c κs =
     let p = both-true _ _ (sym (c .before .before .and .ensures) ∙ c .before .if1 .taken) in
     (eqb-true _ _ (p .0), ltb-true _ _ (p .1))
 
@@ -24,4 +24,4 @@ returns-2 : tie.Need-returns-2
 returns-2 c = search needs
 
 pub put-unit-spec : {M : Type 1} → statement M
-put-unit-spec = tie.close (tie.spec and-requires put-record-requires same-length returns returns-2)
+put-unit-spec = tie.close (tie.spec and-requires put-there-requires same-length returns returns-2)
