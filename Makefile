@@ -29,13 +29,13 @@ check:
 	@rt check $(CRATE)
 
 demo:
-	@tools/demo $(IN)
+	@tools/demo "$(IN)"
 
 replay:
-	@tools/replay $(IN)
+	@tools/replay "$(IN)"
 
 hashes:
-	@tools/hashes $(IN)
+	@tools/hashes "$(IN)"
 
 vectors:
 	@tools/vectors

@@ -89,18 +89,21 @@ static void status(struct response *r, unsigned byte, const uint8_t *data, size_
 
 static void run(struct response *r, const struct command *c, const uint8_t *data, size_t data_len)
 {
+    int reads = c->bytes[0] == 0x28, writes = c->bytes[0] == 0x2a;
     uint32_t first = number_at(c->bytes + 2, 4);
     uint32_t blocks = number_at(c->bytes + 7, 2);
 
-    if (first > BLOCKS || blocks > BLOCKS - first) {
+    if (!reads && !writes) {
+        check_condition(r, 0x5, 0x24, 0x00); /* what this small medium does not do */
+    } else if (first > BLOCKS || blocks > BLOCKS - first) {
         check_condition(r, 0x5, 0x21, 0x00); /* logical block address out of range */
-    } else if (c->bytes[0] == 0x28) {
+    } else if (reads) {
         status(r, NN_STATUS_GOOD, medium[c->unit][first], blocks * BLOCK_LEN);
-    } else if (c->bytes[0] == 0x2a && data_len == blocks * BLOCK_LEN) {
+    } else if (data != NULL && data_len == blocks * BLOCK_LEN) {
         memcpy(medium[c->unit][first], data, data_len);
         status(r, NN_STATUS_GOOD, NULL, 0);
     } else {
-        check_condition(r, 0x5, 0x24, 0x00); /* what this small medium does not do */
+        check_condition(r, 0x5, 0x24, 0x00); /* the data are not the blocks that it asks for */
     }
 }
 
@@ -268,8 +271,10 @@ static void send_data(const char *what, uint32_t slot, const uint8_t *data, size
 
 static void build_units(void)
 {
-    uint64_t guarded = nn_build(units, sizeof units, 0, NN_METHOD_CAPKEY, TAG, identifiers[0], auth_key, gen_key, 0);
-    uint64_t open_to_all = nn_build(units, sizeof units, 1, NN_METHOD_NOSEC, 0, identifiers[1], auth_key, gen_key, 0);
+    uint64_t guarded = nn_build(units, sizeof units, 0, NN_METHOD_CAPKEY, TAG, identifiers[0], auth_key, gen_key,
+                                NN_OWN_KEYS);
+    uint64_t open_to_all = nn_build(units, sizeof units, 1, NN_METHOD_NOSEC, 0, identifiers[1], auth_key, gen_key,
+                                    NN_OWN_KEYS);
 
     if (NN_ANSWER(guarded) != NN_A0 || NN_ANSWER(open_to_all) != NN_A0)
         exit(2);
@@ -352,5 +357,5 @@ int main(void)
     guarded_write();
     revoked_write();
     lost_path();
-    return 0;
+    return fflush(stdout) != 0 || ferror(stdout) ? EXIT_FAILURE : EXIT_SUCCESS;
 }

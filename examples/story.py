@@ -218,7 +218,8 @@ def damage():
 
 
 def main():
-    print("# How a guarded unit is used, how two share keys, and how damage is found. Made by examples/story.py; `make demo` shows each line with its answer.")
+    print("# How a guarded unit is used, how two share keys, and how damage is found. Made by examples/story.py; `make demo` shows each line\n"
+          "# with its answer.")
     say("Each refusal is to carry its reason's words.")
     print("explain on")
     key = mac(GEN_KEY, SEED)

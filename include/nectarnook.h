@@ -35,7 +35,7 @@
  * most stack that a call takes, its return address with it: nn_open 2,704 bytes, nn_close 3,232, nn_build 1,376, nn_abort 1,024,
  * nn_reset 40, nn_sha1 880, nn_hmac_sha1 1,952. These are the frames of the compiled code, added up along the deepest path of calls by
  * `tools/stack`: no function calls itself, and none is called through a pointer. What memcpy and memset take beyond their return address
- * comes on top, and so do arguments that the caller passes on the stack. Calls on a painted stack, good and bad ones, 300,000 of nn_open
+ * comes on top, and so do arguments that the caller passes on the stack. Calls on a painted stack, good and bad ones, 316,000 of nn_open
  * among them, wrote no further down than that.
  */
 #ifndef NECTARNOOK_H
@@ -66,6 +66,10 @@ extern "C" {
 
 #define NN_METHOD_NOSEC 0
 #define NN_METHOD_CAPKEY 1
+
+/* nn_build's keeper: keys of its own, or those of a unit. The number is one more than the unit's. */
+#define NN_OWN_KEYS 0
+#define NN_KEEPER(unit) ((uint32_t)(unit) + 1)
 
 /* ---- fresh tables */
 
@@ -168,8 +172,8 @@ extern "C" {
  * nn_build - build a unit's record
  *
  * Gets:    the unit table; the unit, 0 to 7; the method, 0 NOSEC or 1 CAPKEY; the policy access tag, any; the unit's identifier and its
- *          authentication and generation master keys; the keeper: 0 for keys of its own, or one more than the number of the unit whose
- *          keys it shares.
+ *          authentication and generation master keys; the keeper: NN_OWN_KEYS (0) for keys of its own, or NN_KEEPER(k), one
+ *          more than k, for those of unit k, which it then shares.
  * Gives:   H1  units_len is not 4,096
  *          H5  unit above 7 or method above 1; keeper above 8, or one more than the unit's own number, or that of a unit whose record is
  *              not sound, used and with keys of its own

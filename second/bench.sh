@@ -15,8 +15,8 @@ fi
 objects=$here/target/bench # where build.rs looks for them
 mkdir -p "$objects"
 
-# Only the library's functions are to be seen: what else it defines, such as a
-# panic handler, would clash with what the benches themselves are linked with.
+# Only the library's functions are to be seen, whatever else it may come to
+# define: it could clash with what the benches themselves are linked with.
 pulled='' shown=''
 for name in nn_sha1 nn_hmac_sha1 \
     nn_build nn_open nn_close nn_abort nn_reset; do

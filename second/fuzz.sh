@@ -19,8 +19,8 @@ fi
 mkdir -p "$here/target/fuzz"
 object=$here/target/fuzz/nectarnook.o
 
-# Only the five calls are to be seen: what else the library defines, such as a
-# panic handler, would clash with what the program itself is linked with.
+# Only the five calls are to be seen, whatever else the library may come to
+# define: it could clash with what the program itself is linked with.
 ld -r --force-group-allocation -u nn_build -u nn_open -u nn_close -u nn_abort \
     -u nn_reset -o "$object" "$library"
 objcopy -G nn_build -G nn_open -G nn_close -G nn_abort -G nn_reset "$object"

@@ -3,10 +3,10 @@
 use super::words::Fault;
 use model::Answer;
 use model::Sense;
+use text::digit;
 use text::line_of;
 use text::put;
 use text::put_decimal;
-use text::put_digits;
 use text::put_hex;
 use wire::least;
 
@@ -52,14 +52,19 @@ pub fn part(s: &[u8], a: usize, e: usize) -> &[u8] {
     &s[start..end]
 }
 
-// Sense key, additional code and qualifier: parted by slashes, in upper case.
+// Status, sense key, additional code and qualifier, in upper case, the last three parted by slashes.
 fn put_sense(out: &mut [u8], at: usize, sense: Sense) -> usize {
-    let key = text::digit(sense.key % 16, b'A');
-    let n = put(out, at, &[b'A', b'3', b' ', b'0', b'2', b' ', key, b'/']);
-    let n = put_digits(out, n, sense.code, b'A');
-    let n = put(out, n, b"/");
-    let n = put_digits(out, n, sense.qualifier, b'A');
-    put(out, n, b" ")
+    let key = digit(sense.key % 16, b'A');
+    let code_high = digit(sense.code / 16, b'A');
+    let code_low = digit(sense.code % 16, b'A');
+    let high = digit(sense.qualifier / 16, b'A');
+    let low = digit(sense.qualifier % 16, b'A');
+    let n = put(out, at, b"A3 02 ");
+    put(
+        out,
+        n,
+        &[key, b'/', code_high, code_low, b'/', high, low, b' '],
+    )
 }
 
 // The reason, in decimal or `1b`.
@@ -106,11 +111,21 @@ fn parked_text(out: &mut [u8], slot: u32) -> usize {
     put_decimal(out, n, slot as u64)
 }
 
-// The answers that have no values, a line each, from A2 on; and the place of H1 to H5 among them.
+// The answers that have no values, a line each.
 const PLAIN: [u8; 26] = *b"A2 00\nA4 28\nH1\nH2\nH3\nH4\nH5";
 
-fn plain_text(out: &mut [u8], place: usize) -> usize {
-    put(out, 0, line_of(&PLAIN, place))
+// The place of an answer in that list; one that has values has none.
+fn plain_line(answer: Answer) -> usize {
+    match answer {
+        Answer::Run => 0,
+        Answer::Full => 1,
+        Answer::H1 => 2,
+        Answer::H2 => 3,
+        Answer::H3 => 4,
+        Answer::H4 => 5,
+        Answer::H5 => 6,
+        _ => 7,
+    }
 }
 
 // The answer of a call: document 01's number and values, and for A0 the bytes that it wrote to the reply. With `explain` an A3 has its
@@ -120,13 +135,7 @@ pub fn answer_text(out: &mut [u8], answer: Answer, reply: &[u8], explain: bool) 
         Answer::Good(count) => good_text(out, count, reply),
         Answer::Parked(slot) => parked_text(out, slot.0),
         Answer::Check(sense) => check_text(out, sense, explain),
-        Answer::Run => plain_text(out, 0),
-        Answer::Full => plain_text(out, 1),
-        Answer::H1 => plain_text(out, 2),
-        Answer::H2 => plain_text(out, 3),
-        Answer::H3 => plain_text(out, 4),
-        Answer::H4 => plain_text(out, 5),
-        Answer::H5 => plain_text(out, 6),
+        _ => put(out, 0, line_of(&PLAIN, plain_line(answer))),
     }
 }
 
@@ -163,12 +172,16 @@ fn put_word(out: &mut [u8], at: usize, word: u32) -> usize {
     put_decimal(out, n, word as u64)
 }
 
+// The SHA-1 of a buffer, behind a space.
+fn put_digest(out: &mut [u8], at: usize, buffer: &[u8]) -> usize {
+    let n = put(out, at, b" ");
+    put_hex(out, n, &sha1::hash(buffer))
+}
+
 // The digests of the three buffers.
 pub fn state_text(out: &mut [u8], units: &[u8], slots: &[u8], reply: &[u8]) -> usize {
-    let n = put(out, 0, b"state ");
-    let n = put_hex(out, n, &sha1::hash(units));
-    let n = put(out, n, b" ");
-    let n = put_hex(out, n, &sha1::hash(slots));
-    let n = put(out, n, b" ");
-    put_hex(out, n, &sha1::hash(reply))
+    let n = put(out, 0, b"state");
+    let n = put_digest(out, n, units);
+    let n = put_digest(out, n, slots);
+    put_digest(out, n, reply)
 }

@@ -18,7 +18,8 @@ First gap at line r =
     (min at (length line) ≤ r) × ((r ≤ length line)
     × (((i : ℕ) → at ≤ i → i < r → isGap (getD line i 0) ≡ not gap) × (r < length line → isGap (getD line r 0) ≡ gap)))
 
--- a word starts where no gap stands and ends at the next gap; at the line's end, where there is none, it has no bytes. Where it ends, and its bytes
+-- a word starts where no gap stands and ends at the next gap; at the line's end, where there is none, it has no bytes. Where it ends, and
+-- its bytes
 abbrev pub WordEnd : ℕ → List ℕ → ℕ → Type 0
 WordEnd at line end = (start : ℕ) × ((First false at line start) × (First true start line end))
 
