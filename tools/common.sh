@@ -83,7 +83,9 @@ made=()
 trap '[ ${#made[@]} -eq 0 ] || rm -f "${made[@]}"' EXIT
 temporary() {
     local path
-    path=$(mktemp) && made+=("$path") && echo "$me" >"$path" || stop "no temporary file can be written"
+    path=$(mktemp) || stop "no temporary file can be written"
+    made+=("$path")
+    echo "$me" >"$path" || stop "no temporary file can be written"
     printf -v "$1" '%s' "$path"
 }
 

@@ -25,7 +25,8 @@ const REASONS: [u8; 1186] = *b"\
     capability: a needed permission bit of byte 32 is missing\n\
     capability: policy tag not zero and not the unit's\n\
     capability: type not 1h, length not 16, or identifier not the unit's\n\
-    no such key: the version has no valid key, a master command names another version than 0, or Change comes with no seed exchange pending\n\
+    no such key: the version has no valid key, a master command names another version than 0, \
+    or Change comes with no seed exchange pending\n\
     the integrity check value differs\n\
     B5h: bytes 6-9 are not the page's total\n\
     IN page 0012h with no seed exchange pending in the unit's key set\n\

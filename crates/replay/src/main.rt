@@ -105,6 +105,28 @@ fn shown_text(call: Call, units: &[u8], slots: &[u8], reply: &[u8], out: &mut [u
     }
 }
 
+// Does what a line asks for that is no build, open or close, and answers as obey does.
+fn obey_other(
+    call: Call,
+    n: u64,
+    units: &mut [u8],
+    slots: &mut [u8],
+    reply: &mut [u8],
+    space: &[u8],
+    out: &mut [u8],
+) -> usize {
+    match call {
+        Call::Abort(slot) => listing::answer_text(out, calls::abort(slots, slot), b"", false),
+        Call::Reset => listing::answer_text(out, calls::reset(slots), b"", false),
+        Call::Poke { table, at, bytes } => {
+            let b = listing::part(space, 0, bytes);
+            poke(table, units, slots, reply, at, b)
+        }
+        Call::Wrong { fault, word } => listing::fault_text(out, n, word, fault),
+        _ => shown_text(call, &units[..], &slots[..], &reply[..], out),
+    }
+}
+
 // Does what line n asks for, and answers how many bytes of out are to be printed for it.
 fn obey(
     call: Call,
@@ -139,14 +161,7 @@ fn obey(
             let d = listing::part(space, 0, list);
             close_text(units, slots, &reply[..], slot, clock, d, explain, out)
         }
-        Call::Abort(slot) => listing::answer_text(out, calls::abort(slots, slot), b"", false),
-        Call::Reset => listing::answer_text(out, calls::reset(slots), b"", false),
-        Call::Poke { table, at, bytes } => {
-            let b = listing::part(space, 0, bytes);
-            poke(table, units, slots, reply, at, b)
-        }
-        Call::Wrong { fault, word } => listing::fault_text(out, n, word, fault),
-        _ => shown_text(call, &units[..], &slots[..], &reply[..], out),
+        _ => obey_other(call, n, units, slots, reply, space, out),
     }
 }
 

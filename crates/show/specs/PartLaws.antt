@@ -14,7 +14,8 @@ use Rattle.wire.specs.Bytes.{zeros}
 use Rattle.seal.specs.Seal.{checked}
 use Rattle.model.specs.Codes.{dataOut, legalLen}
 use Rattle.units.specs.declared.UnitState.the-variants.{Unused, Used, Unsound}
-use Rattle.units.specs.Unit.{layout, unitNumber, method, step, nextPairZero, isValid, keysZero, keeperShape, unnamedZero, usedShape, unitStateOf, unitAt}
+use Rattle.units.specs.Unit.{layout, unitNumber, method, step, nextPairZero, isValid, keysZero, keeperShape, unnamedZero, usedShape}
+use Rattle.units.specs.Unit.{unitStateOf, unitAt}
 use Rattle.units.specs.Unit.{keeperOf, keepsKeys, keptState, unitState}
 use Rattle.slots.specs.declared.SlotState.the-variants.{Free, Open, Unsound as UnsoundSlot}
 use Rattle.slots.specs.Slot.{stateNumber, slotUnit, commandLength, tokenLength, rightToken, openShape, slotStateOf}
@@ -22,7 +23,8 @@ use Rattle.show.specs.declared.UnitPart.{UnitPart}
 use Rattle.show.specs.declared.UnitPart.the-variants.{Nothing, Check, Layout, Place, Method, Step, NextPair, Key, Unnamed, Keeper}
 use Rattle.show.specs.declared.SlotPart.{SlotPart}
 use Rattle.show.specs.declared.SlotPart.the-variants as Slot
-use Rattle.show.specs.Parts.{keyWrong, wrongKey, tailPart, recordPart, isUnsoundUnit, unitPart, spacePart, openPart, isUnsoundSlot, slotPart}
+use Rattle.show.specs.Parts.{keyWrong, wrongKey, tailPart, recordPart, isUnsoundUnit, unitPart, spacePart, openPart, isUnsoundSlot}
+use Rattle.show.specs.Parts.{slotPart}
 
 module _ (v : ℕ) (l : List ℕ) where
   pub wrong-found : v < 16 → keyWrong v l ≡ true → wrongKey (16 - v) v l ≡ v
@@ -115,7 +117,8 @@ module _ (units : List ℕ) (u : ℕ) (e : isUnsoundUnit (unitState units u) ≡
       (λ f. pick-cases P (either (eqb (step (unitAt u units)) 1) (nextPairZero (unitAt u units))) _ NextPair
       (λ g. pick-cases P (eqb (wrongKey 16 0 (unitAt u units)) 16) _ _
       (λ h. pick-cases P (unnamedZero (unitAt u units)) Keeper Unnamed
-      (λ i. keeper-fails a b c d f g (none-zero (unitAt u units) (eqb-true _ 16 h)) i) (λ i. ap not i)) (λ h. found-wrong (unitAt u units) (eqb-false _ 16 h)))
+      (λ i. keeper-fails a b c d f g (none-zero (unitAt u units) (eqb-true _ 16 h)) i) (λ i. ap not i)) (λ h. found-wrong (unitAt u
+      units) (eqb-false _ 16 h)))
       (λ g. ap not g)) (λ f. ap not f)) (λ d. ap not d)) (λ c. ap not c)) (λ b. ap not b)) (λ a. ap not a)
 
   -- the part that is named fails
@@ -172,7 +175,8 @@ module _ (l : List ℕ) (e : isUnsoundSlot (slotStateOf l) ≡ true) where
       (λ d. pick-cases P (both (dataOut (getD l 8 0)) (legalLen (getD l 8 0) (commandLength l))) _ Slot.Command
       (λ f. pick-cases P (zeros (100 - commandLength l) (8 + commandLength l) l) _ Slot.PastCommand
       (λ g. pick-cases P (zeros (64 - tokenLength l) (108 + tokenLength l) l) Slot.Unnamed Slot.PastToken
-      (λ h. unnamed-fails a b c d f g h) (λ h. ap not h)) (λ g. ap not g)) (λ f. ap not f)) (λ d. ap not d)) (λ c. ap not c)) (λ b. ap not b))
+      (λ h. unnamed-fails a b c d f g h) (λ h. ap not h)) (λ g. ap not g)) (λ f. ap not f)) (λ d. ap not d)) (λ c. ap not c)) (λ b. ap
+      not b))
       (λ a. ap not a)
 
   pub slot-fails : slotFails l (slotPart l) ≡ true

@@ -12,7 +12,8 @@ ghost use lib.ListN.{length};
 ghost use Rattle.choice.specs.Choice.{pick};
 ghost use Rattle.units.specs.Unit.{unitAt};
 ghost use Rattle.slots.specs.Slot.{slotAt};
-ghost use Rattle.show.specs.Parts.{keyWrong, wrongKey, tailPart, recordPart, unitPart, spacePart, openPart, slotPart, isUnsoundUnit, isUnsoundSlot};
+ghost use Rattle.show.specs.Parts.{keyWrong, wrongKey, tailPart, recordPart, isUnsoundUnit, unitPart};
+ghost use Rattle.show.specs.Parts.{spacePart, openPart, isUnsoundSlot, slotPart};
 
 // ---- units
 

@@ -15,7 +15,8 @@ use Rattle.wire.specs.Bytes.{AreBytes, patch}
 use Rattle.wire.specs.PatchLaws.{length-patch, patch-join}
 use Rattle.text.specs.Place.{bad, placeBehind, withText}
 use Rattle.text.specs.PlaceLaws.{placed-in}
-use Rattle.text.specs.Hex.{within, value, digit, twoDigits, digitsOf, hexText, allDigits, bytesIn, isDash, arePairs, isHex, hexBytes, unhexPlace, unhexIn}
+use Rattle.text.specs.Hex.{within, value, digit, twoDigits, digitsOf, hexText, allDigits, bytesIn, isDash, arePairs, isHex}
+use Rattle.text.specs.Hex.{hexBytes, unhexPlace, unhexIn}
 
 -- i is one of the first n + 1: one of the first n, or the last
 pub last-or-before : (i n : ℕ) → i < suc n → (i < n) ⊎ (i ≡ n)
@@ -121,7 +122,8 @@ unfolding value
 value-most c =
     pick-cases (λ (x : ℕ). x ≤ 16) (within 0x30 0x39 c) (c - 0x30) _ (λ e. numeral (both-true (leb 0x30 c) (leb c 0x39) e .1))
     (λ e. pick-cases (λ (x : ℕ). x ≤ 16) (within 0x41 0x46 c) (c - 0x41 + 10) _ (λ f. capital (both-true (leb 0x41 c) (leb c 0x46) f .1))
-    (λ f. pick-cases (λ (x : ℕ). x ≤ 16) (within 0x61 0x66 c) (c - 0x61 + 10) 16 (λ g. letter (both-true (leb 0x61 c) (leb c 0x66) g .1)) (λ g. omega arith)))
+    (λ f. pick-cases (λ (x : ℕ). x ≤ 16) (within 0x61 0x66 c) (c - 0x61 + 10) 16 (λ g. letter (both-true (leb 0x61 c) (leb c 0x66) g
+    .1)) (λ g. omega arith)))
   where
     numeral : leb c 0x39 ≡ true → c - 0x30 ≤ 16
     numeral e = omega (arith, leb-true c 0x39 e)
@@ -304,7 +306,8 @@ module _ (s out : List ℕ) (at : ℕ) where
   unhex-dash e = rw e (refl, refl)
 
   pub unhex-pairs : isDash s ≡ false → arePairs s ≡ true
-      → (unhexPlace s out at ≡ placeBehind out at (bytesIn (length s / 2) s)) × (unhexIn s out at ≡ withText out at (bytesIn (length s / 2) s))
+      → (unhexPlace s out at ≡ placeBehind out at (bytesIn (length s / 2) s)) × (unhexIn s out at ≡ withText out at (bytesIn (length s
+      / 2) s))
   unfolding unhexPlace unhexIn isHex hexBytes
   unhex-pairs e f = rw (e, f) (refl, refl)
 

@@ -7,7 +7,9 @@ use Rattle.digests.proofs.run.Statement.{statement}
 use Rattle.digests.proofs.run.Tie as tie
 
 abbrev Inv-loop : tie.InvT-loop
-Inv-loop line₀ chunk₀ space₀ input₀ told₀ t7 line chunk space input told = (input .next ≤ input .end) × (input .end ≤ length chunk) × (length line ≡ length line₀) × (length chunk ≡ length chunk₀) × (length space ≡ length space₀)
+Inv-loop line₀ chunk₀ space₀ input₀ told₀ t7 line chunk space input told =
+    (input .next ≤ input .end) × (input .end ≤ length chunk) × (length line ≡ length line₀) × (length chunk ≡ length chunk₀) × (length
+    space ≡ length space₀)
 
 abbrev μ-loop : tie.MeasureT-loop
 μ-loop line₀ chunk₀ space₀ input₀ told₀ t7 line chunk space input told = input .left

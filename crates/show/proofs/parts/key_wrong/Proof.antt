@@ -26,7 +26,9 @@ or-requires c κs = search needs
 
 returns : tie.Need-returns
 unfolding keyWrong isValid
-returns c = rw (c .or .ensures, c .before .before .has-bit .ensures, c .before .are-zeros .ensures, c .before .before .before .mask-of .ensures)
+returns c =
+    let b1 = c .before in let b2 = b1 .before in let b3 = b2 .before in
+    rw (c .or .ensures, b2 .has-bit .ensures, b1 .are-zeros .ensures, b3 .mask-of .ensures)
 
 pub key-wrong-spec : {M : Type 1} → statement M
 key-wrong-spec =

@@ -62,7 +62,28 @@ slot-unless-requires-5 c κs = search needs
 
 returns : tie.Need-returns
 unfolding openPart commandLength tokenLength slotUnit stateNumber
-returns c = rw (c .slot-unless5 .ensures, c .before .is-checked .ensures, c .before .before .slot-unless4 .ensures, c .before .before .before .be164 .ensures, c .before .before .before .before .slot-unless3 .ensures, c .before .before .before .before .before .be163 .ensures, c .before .before .before .before .before .before .slot-unless2 .ensures, c .before .before .before .before .before .before .before .right-token .ensures, c .before .before .before .before .before .before .before .before .slot-unless .ensures, c .before .before .before .before .before .before .before .before .before .before .and .ensures, c .before .before .before .before .before .before .before .before .before .space-part .ensures, c .before .before .before .before .before .before .before .before .before .before .before .legal-len .ensures, c .before .before .before .before .before .before .before .before .before .before .before .before .data-out .ensures, c .before .before .before .before .before .before .before .before .before .before .before .before .before .at .ensures, c .before .before .before .before .before .before .before .before .before .before .before .before .before .before .be162 .ensures, c .before .before .before .before .before .before .before .before .before .before .before .before .before .before .before .be16 .ensures)
+returns c =
+    let b1 = c .before in let b2 = b1 .before in let b3 = b2 .before in let b4 = b3 .before in let b5 = b4 .before in
+    let b6 = b5 .before in let b7 = b6 .before in let b8 = b7 .before in let b9 = b8 .before in let b10 = b9 .before in
+    let b11 = b10 .before in let b12 = b11 .before in let b13 = b12 .before in let b14 = b13 .before in let b15 = b14 .before in
+    rw (
+      c .slot-unless5 .ensures,
+      b1 .is-checked .ensures,
+      b2 .slot-unless4 .ensures,
+      b3 .be164 .ensures,
+      b4 .slot-unless3 .ensures,
+      b5 .be163 .ensures,
+      b6 .slot-unless2 .ensures,
+      b7 .right-token .ensures,
+      b8 .slot-unless .ensures,
+      b10 .and .ensures,
+      b9 .space-part .ensures,
+      b11 .legal-len .ensures,
+      b12 .data-out .ensures,
+      b13 .at .ensures,
+      b14 .be162 .ensures,
+      b15 .be16 .ensures,
+    )
 
 pub open-part-spec : {M : Type 1} → statement M
 open-part-spec =

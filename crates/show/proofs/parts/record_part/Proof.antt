@@ -43,7 +43,23 @@ unit-unless-requires-5 c κs = search needs
 
 returns : tie.Need-returns
 unfolding recordPart layout unitNumber
-returns c = rw (c .unit-unless5 .ensures, c .before .is-checked .ensures, c .before .before .unit-unless4 .ensures, c .before .before .before .be162 .ensures, c .before .before .before .before .unit-unless3 .ensures, c .before .before .before .before .before .before .unit-unless2 .ensures, c .before .before .before .before .before .before .before .method-of .ensures, c .before .before .before .before .before .before .before .before .unit-unless .ensures, c .before .before .before .before .before .before .before .before .before .step-of .ensures, c .before .before .before .before .before .before .before .before .before .before .tail-part .ensures, c .before .before .before .before .before .before .before .before .before .before .before .be16 .ensures)
+returns c =
+    let b1 = c .before in let b2 = b1 .before in let b3 = b2 .before in let b4 = b3 .before in let b5 = b4 .before in
+    let b6 = b5 .before in let b7 = b6 .before in let b8 = b7 .before in let b9 = b8 .before in let b10 = b9 .before in
+    let b11 = b10 .before in
+    rw (
+      c .unit-unless5 .ensures,
+      b1 .is-checked .ensures,
+      b2 .unit-unless4 .ensures,
+      b3 .be162 .ensures,
+      b4 .unit-unless3 .ensures,
+      b6 .unit-unless2 .ensures,
+      b7 .method-of .ensures,
+      b8 .unit-unless .ensures,
+      b9 .step-of .ensures,
+      b10 .tail-part .ensures,
+      b11 .be16 .ensures,
+    )
 
 pub record-part-spec : {M : Type 1} → statement M
 record-part-spec =

@@ -29,7 +29,9 @@ slot-unless-requires c κs = search needs
 
 returns : tie.Need-returns
 unfolding slotPart
-returns c = rw (c .slot-unless .ensures, c .before .is-unsound-slot .ensures, c .before .before .slot-state .ensures, c .before .before .before .open-part .ensures, c .before .before .before .before .record-of .ensures)
+returns c =
+    let b1 = c .before in let b2 = b1 .before in let b3 = b2 .before in let b4 = b3 .before in
+    rw (c .slot-unless .ensures, b1 .is-unsound-slot .ensures, b2 .slot-state .ensures, b3 .open-part .ensures, b4 .record-of .ensures)
 
 pub slot-part-spec : {M : Type 1} → statement M
 slot-part-spec =

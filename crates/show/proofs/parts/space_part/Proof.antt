@@ -32,7 +32,16 @@ slot-unless-requires-2 c κs = search needs
 
 returns : tie.Need-returns
 unfolding spacePart commandLength tokenLength
-returns c = rw (c .slot-unless2 .ensures, c .before .before .before .zero-past .ensures, c .before .slot-unless .ensures, c .before .before .zero-past2 .ensures, c .before .before .before .before .before .be16 .ensures, c .before .before .before .before .be162 .ensures)
+returns c =
+    let b1 = c .before in let b2 = b1 .before in let b3 = b2 .before in let b4 = b3 .before in let b5 = b4 .before in
+    rw (
+      c .slot-unless2 .ensures,
+      b3 .zero-past .ensures,
+      b1 .slot-unless .ensures,
+      b2 .zero-past2 .ensures,
+      b5 .be16 .ensures,
+      b4 .be162 .ensures,
+    )
 
 pub space-part-spec : {M : Type 1} → statement M
 space-part-spec =

@@ -31,7 +31,19 @@ unit-unless-requires-3 c κs = search needs
 
 returns : tie.Need-returns
 unfolding tailPart nextPairZero unnamedZero
-returns c = rw (c .unit-unless3 .ensures, c .before .before .before .before .before .or .ensures, c .before .before .before .before .before .before .before .step-of .ensures, c .before .before .before .before .before .before .are-zeros .ensures, c .before .unit-unless2 .ensures, c .before .before .before .before .wrong-key .ensures, c .before .before .unit-unless .ensures, c .before .before .before .are-zeros2 .ensures)
+returns c =
+    let b1 = c .before in let b2 = b1 .before in let b3 = b2 .before in let b4 = b3 .before in let b5 = b4 .before in
+    let b6 = b5 .before in let b7 = b6 .before in
+    rw (
+      c .unit-unless3 .ensures,
+      b5 .or .ensures,
+      b7 .step-of .ensures,
+      b6 .are-zeros .ensures,
+      b1 .unit-unless2 .ensures,
+      b4 .wrong-key .ensures,
+      b2 .unit-unless .ensures,
+      b3 .are-zeros2 .ensures,
+    )
 
 pub tail-part-spec : {M : Type 1} → statement M
 tail-part-spec =

@@ -27,7 +27,9 @@ unit-unless-requires c κs = search needs
 
 returns : tie.Need-returns
 unfolding unitPart
-returns c = rw (c .unit-unless .ensures, c .before .is-unsound-unit .ensures, c .before .before .unit-state .ensures, c .before .before .before .record-part .ensures, c .before .before .before .before .record-of .ensures)
+returns c =
+    let b1 = c .before in let b2 = b1 .before in let b3 = b2 .before in let b4 = b3 .before in
+    rw (c .unit-unless .ensures, b1 .is-unsound-unit .ensures, b2 .unit-state .ensures, b3 .record-part .ensures, b4 .record-of .ensures)
 
 pub unit-part-spec : {M : Type 1} → statement M
 unit-part-spec =

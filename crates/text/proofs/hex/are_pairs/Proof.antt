@@ -24,7 +24,8 @@ returns : tie.Need-returns
 unfolding arePairs
 returns c =
     let s = now (c .before .before .before .before .args .s) in
-    c .and2 .ensures ∙ ap (both (not (eqb (length s) 0))) (c .before .and .ensures ∙ ap (both (eqb (length s % 2) 0)) (c .before .before .all-digits .ensures))
+    c .and2 .ensures ∙ ap (both (not (eqb (length s) 0))) (c .before .and .ensures ∙ ap (both (eqb (length s % 2) 0)) (c .before
+    .before .all-digits .ensures))
 
 pub are-pairs-spec : {M : Type 1} → statement M
 are-pairs-spec = tie.close (tie.spec all-digits-requires and-requires and-requires-2 returns)

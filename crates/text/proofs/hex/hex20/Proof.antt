@@ -26,7 +26,8 @@ returns : tie.Need-returns
 returns c =
     let d = c .before .before .before .before .args .t1 in
     let n : length d ≡ 20 = search needs in
-    c .before .put-all .ensures ∙ patch-all _ (digitsOf (length d) d) (omega (arith, digits-length (length d) d)) ∙ ap (λ (k : ℕ). digitsOf k d) n
+    c .before .put-all .ensures ∙ patch-all _ (digitsOf (length d) d) (omega (arith, digits-length (length d) d)) ∙ ap (λ (k : ℕ).
+    digitsOf k d) n
 
 pub hex20-spec : {M : Type 1} → statement M
 hex20-spec =

@@ -18,7 +18,9 @@ and-requires c κs = search needs
 
 returns : tie.Need-returns
 unfolding isDash
-returns c = c .and .ensures ∙ ap (λ (x : ℕ). both (eqb (length (now (c .before .before .before .args .s))) 1) (eqb x 0x2d)) (c .before .at .ensures)
+returns c =
+    c .and .ensures ∙ ap (λ (x : ℕ). both (eqb (length (now (c .before .before .before .args .s))) 1) (eqb x 0x2d)) (c .before .at
+    .ensures)
 
 pub is-dash-spec : {M : Type 1} → statement M
 is-dash-spec = tie.close (tie.spec at-requires and-requires returns)

@@ -26,7 +26,15 @@ abbrev μ-loop : tie.MeasureT-loop
 μ-loop out₀ at s i₀ out i = length s - i
 
 loop-holds : tie.Need-loop-holds Inv-loop μ-loop
-loop-holds c = let g = c .before .before .args in (omega arith, (refl, sym (ap (patch (now (g .out)) (g .at)) (digits-none (now (g .s))) ∙ patch-none (now (g .out)) (g .at))))
+loop-holds c =
+    let g = c .before .before .args in (
+      omega arith,
+      (
+        refl,
+        sym (ap (patch (now (g .out)) (g .at)) (digits-none (now (g .s))) ∙
+            patch-none (now (g .out)) (g .at)),
+      ),
+    )
 
 mul-put-digits : tie.Need-mul-put-digits Inv-loop μ-loop
 mul-put-digits c = search needs

@@ -24,7 +24,15 @@ abbrev μ-loop : tie.MeasureT-loop
 μ-loop s n out₀ at i₀ out i = n - i
 
 loop-holds : tie.Need-loop-holds Inv-loop μ-loop
-loop-holds c = let g = c .before .before .args in (omega arith, (refl, sym (ap (patch (now (g .out)) (g .at)) (bytes-none (now (g .s))) ∙ patch-none (now (g .out)) (g .at))))
+loop-holds c =
+    let g = c .before .before .args in (
+      omega arith,
+      (
+        refl,
+        sym (ap (patch (now (g .out)) (g .at)) (bytes-none (now (g .s))) ∙
+            patch-none (now (g .out)) (g .at)),
+      ),
+    )
 
 byte-of-requires : tie.Need-byte-of-requires Inv-loop μ-loop
 byte-of-requires c κs = search needs
@@ -51,7 +59,8 @@ loop-again c =
     let out = now (g .out) in
     let s = now (g .s) in
     let e = c .before .before .put .ensures
-    ∙ ap₂ (λ (o : List ℕ) (b : ℕ). patch o (g .at + l .i) (b ∷ [])) (l .inv .1 .1) (c .before .before .before .before .before .byte-of .ensures)
+    ∙ ap₂ (λ (o : List ℕ) (b : ℕ). patch o (g .at + l .i) (b ∷ [])) (l .inv .1 .1) (c .before .before .before .before .before .byte-of
+    .ensures)
     ∙ bytes-more out (g .at) (l .i) s (omega arith) in
     let n = ap length e ∙ length-patch out (g .at) (bytesIn (l .i + 1) s) (omega (arith, bytes-length (l .i + 1) s)) in
     (omega arith, (n, e))

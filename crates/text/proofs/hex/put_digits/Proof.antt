@@ -28,8 +28,10 @@ returns : tie.Need-returns
 unfolding twoDigits
 returns c =
     let g = c .before .before .before .before .before .before .before .before .args in
-    let e : ((c .before .before .before .before .before .before .digit .result) ∷ (c .before .before .before .before .before .digit2 .result) ∷ []) ≡ twoDigits (g .ten) (g .b) =
-    ap₂ (λ (x y : ℕ). x ∷ y ∷ []) (c .before .before .before .before .before .before .digit .ensures) (c .before .before .before .before .before .digit2 .ensures) in
+    let e : ((c .before .before .before .before .before .before .digit .result) ∷ (c .before .before .before .before .before .digit2
+    .result) ∷ []) ≡ twoDigits (g .ten) (g .b) =
+    ap₂ (λ (x y : ℕ). x ∷ y ∷ []) (c .before .before .before .before .before .before .digit .ensures) (c .before .before .before
+    .before .before .digit2 .ensures) in
     let p = c .before .before .put .ensures in
     (p .0 ∙ ap (placeBehind (now (g .out)) (g .at)) e, p .1 ∙ ap (withText (now (g .out)) (g .at)) e)
 

@@ -32,8 +32,11 @@ returns c =
 returns-2 : tie.Need-returns-2
 returns-2 c =
     let g = c .before .before .before .before .args in
-    let long = ap length (text-some (now (g .s)) (omega arith)) ∙ digits-length (length (now (g .s))) (now (g .s)) in
-    (sym (unplaced-behind (now (g .out)) (g .at) (hexText (now (g .s))) (omega (arith, long))), sym (unplaced-in (now (g .out)) (g .at) (hexText (now (g .s))) (omega (arith, long))))
+    let long = ap length (text-some (now (g .s)) (omega arith)) ∙ digits-length (length (now (g .s))) (now (g .s)) in (
+      sym (unplaced-behind (now (g .out)) (g .at) (hexText (now (g .s))) (omega (arith, long))),
+      sym (unplaced-in (now (g .out)) (g .at)
+          (hexText (now (g .s))) (omega (arith, long))),
+    )
 
 sub-if3 : tie.Need-sub-if3
 sub-if3 c = search needs
@@ -41,8 +44,11 @@ sub-if3 c = search needs
 returns-3 : tie.Need-returns-3
 returns-3 c =
     let g = c .before .before .before .before .before .args in
-    let long = ap length (text-some (now (g .s)) (omega arith)) ∙ digits-length (length (now (g .s))) (now (g .s)) in
-    (sym (unplaced-behind (now (g .out)) (g .at) (hexText (now (g .s))) (omega (arith, long))), sym (unplaced-in (now (g .out)) (g .at) (hexText (now (g .s))) (omega (arith, long))))
+    let long = ap length (text-some (now (g .s)) (omega arith)) ∙ digits-length (length (now (g .s))) (now (g .s)) in (
+      sym (unplaced-behind (now (g .out)) (g .at) (hexText (now (g .s))) (omega (arith, long))),
+      sym (unplaced-in (now (g .out)) (g .at)
+          (hexText (now (g .s))) (omega (arith, long))),
+    )
 
 put-all-requires : tie.Need-put-all-requires
 put-all-requires c κs = search needs

@@ -14,8 +14,11 @@ use Rattle.text.proofs.hex.put_pairs.Tie as tie
 returns : tie.Need-returns
 returns c =
     let g = c .before .before .before .args in
-    let long = bytes-length (length (now (g .s)) / 2) (now (g .s)) in
-    (sym (unplaced-behind (now (g .out)) (g .at) (bytesIn (length (now (g .s)) / 2) (now (g .s))) (omega (arith, long))), sym (unplaced-in (now (g .out)) (g .at) (bytesIn (length (now (g .s)) / 2) (now (g .s))) (omega (arith, long))))
+    let long = bytes-length (length (now (g .s)) / 2) (now (g .s)) in (
+      sym (unplaced-behind (now (g .out)) (g .at) (bytesIn (length (now (g .s)) / 2) (now (g .s))) (omega (arith, long))),
+      sym
+          (unplaced-in (now (g .out)) (g .at) (bytesIn (length (now (g .s)) / 2) (now (g .s))) (omega (arith, long))),
+    )
 
 sub-if2 : tie.Need-sub-if2
 sub-if2 c = search needs
@@ -23,8 +26,11 @@ sub-if2 c = search needs
 returns-2 : tie.Need-returns-2
 returns-2 c =
     let g = c .before .before .before .before .args in
-    let long = bytes-length (length (now (g .s)) / 2) (now (g .s)) in
-    (sym (unplaced-behind (now (g .out)) (g .at) (bytesIn (length (now (g .s)) / 2) (now (g .s))) (omega (arith, long))), sym (unplaced-in (now (g .out)) (g .at) (bytesIn (length (now (g .s)) / 2) (now (g .s))) (omega (arith, long))))
+    let long = bytes-length (length (now (g .s)) / 2) (now (g .s)) in (
+      sym (unplaced-behind (now (g .out)) (g .at) (bytesIn (length (now (g .s)) / 2) (now (g .s))) (omega (arith, long))),
+      sym
+          (unplaced-in (now (g .out)) (g .at) (bytesIn (length (now (g .s)) / 2) (now (g .s))) (omega (arith, long))),
+    )
 
 put-bytes-requires : tie.Need-put-bytes-requires
 put-bytes-requires c κs = search needs

@@ -21,7 +21,8 @@ same-length c = search needs
 returns : tie.Need-returns
 returns c =
     let g = c .before .before .before .before .before .before .before .before .before .args in
-    let u = unhex-dash (now (g .s)) (now (g .out)) (g .at) (sym (c .before .before .before .before .before .before .is-dash .ensures) ∙ c .before .before .before .before .before .if1 .taken) in
+    let u = unhex-dash (now (g .s)) (now (g .out)) (g .at) (sym (c .before .before .before .before .before .before .is-dash .ensures) ∙
+    c .before .before .before .before .before .if1 .taken) in
     let p = c .before .before .put .ensures in
     (p .0 ∙ sym (u .0), p .1 ∙ sym (u .1))
 
@@ -37,14 +38,17 @@ same-length-2 c = search needs
 returns-2 : tie.Need-returns-2
 returns-2 c =
     let g = c .before .before .before .before .before .before .before .before .before .before .args in
-    let u = unhex-pairs (now (g .s)) (now (g .out)) (g .at) (sym (c .before .before .before .before .before .before .before .is-dash .ensures) ∙ c .before .before .before .before .before .before .if1 .left) (sym (c .before .before .before .before .before .are-pairs .ensures) ∙ c .before .before .before .before .if2 .taken) in
+    let u = unhex-pairs (now (g .s)) (now (g .out)) (g .at) (sym (c .before .before .before .before .before .before .before .is-dash
+    .ensures) ∙ c .before .before .before .before .before .before .if1 .left) (sym (c .before .before .before .before .before
+    .are-pairs .ensures) ∙ c .before .before .before .before .if2 .taken) in
     let p = c .before .before .put-pairs .ensures in
     (p .0 ∙ sym (u .0), p .1 ∙ sym (u .1))
 
 returns-3 : tie.Need-returns-3
 returns-3 c =
     let g = c .before .before .before .before .before .before .args in
-    let u = unhex-none (now (g .s)) (now (g .out)) (g .at) (sym (c .before .before .before .is-dash .ensures) ∙ c .before .before .if1 .left) (sym (c .before .are-pairs .ensures) ∙ c .if2 .left) in
+    let u = unhex-none (now (g .s)) (now (g .out)) (g .at) (sym (c .before .before .before .is-dash .ensures) ∙ c .before .before .if1
+    .left) (sym (c .before .are-pairs .ensures) ∙ c .if2 .left) in
     (sym (u .0), sym (u .1))
 
 pub unhex-spec : {M : Type 1} → statement M

@@ -7,7 +7,9 @@ use Rattle.text.proofs.lines.next_line.Statement.{statement}
 use Rattle.text.proofs.lines.next_line.Tie as tie
 
 abbrev Inv-loop : tie.InvT-loop
-Inv-loop line₀ chunk₀ used₀ rest₀ line chunk used rest = (rest .left ≤ rest₀ .left) × (rest .next ≤ rest .end) × (rest .end ≤ length chunk) × (length chunk ≡ length chunk₀) × (length line ≡ length line₀)
+Inv-loop line₀ chunk₀ used₀ rest₀ line chunk used rest =
+    (rest .left ≤ rest₀ .left) × (rest .next ≤ rest .end) × (rest .end ≤ length chunk) × (length chunk ≡ length chunk₀) × (length line
+    ≡ length line₀)
 
 abbrev μ-loop : tie.MeasureT-loop
 μ-loop line₀ chunk₀ used₀ rest₀ line chunk used rest = rest .left

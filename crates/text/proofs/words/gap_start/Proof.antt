@@ -26,7 +26,10 @@ is-gap-requires : tie.Need-is-gap-requires Inv-loop μ-loop
 is-gap-requires c κs = search needs
 
 returns : tie.Need-returns Inv-loop μ-loop
-returns c = let g = c .before .before .before .before .before .before .args in search-finds true (g .at) (now (g .line)) (c .before .before .before .before .loop .i) (c .before .before .before .before .loop .inv) (omega arith) (sym (c .before .is-gap .ensures) ∙ c .if1 .taken)
+returns c =
+    let g = c .before .before .before .before .before .before .args in search-finds true (g .at) (now (g .line)) (c .before .before
+    .before .before .loop .i) (c .before .before .before .before .loop .inv) (omega arith) (sym (c .before .is-gap .ensures) ∙ c .if1
+    .taken)
 
 add-i : tie.Need-add-i Inv-loop μ-loop
 add-i c = search needs
@@ -35,10 +38,14 @@ loop-less : tie.Need-loop-less Inv-loop μ-loop
 loop-less c = search needs
 
 loop-again : tie.Need-loop-again Inv-loop μ-loop
-loop-again c = let g = c .before .before .before .before .before .before .args in search-goes-on true (g .at) (now (g .line)) _ (c .before .before .before .before .loop .inv) (sym (c .before .is-gap .ensures) ∙ c .if1 .left)
+loop-again c =
+    let g = c .before .before .before .before .before .before .args in search-goes-on true (g .at) (now (g .line)) _ (c .before .before
+    .before .before .loop .inv) (sym (c .before .is-gap .ensures) ∙ c .if1 .left)
 
 returns-2 : tie.Need-returns-2 Inv-loop μ-loop
-returns-2 c = let g = c .before .before .before .args in search-ends true (g .at) (now (g .line)) (c .before .loop .i) (c .before .loop .inv) (omega arith)
+returns-2 c =
+    let g = c .before .before .before .args in search-ends true (g .at) (now (g .line)) (c .before .loop .i) (c .before .loop .inv)
+    (omega arith)
 
 pub gap-start-spec : {M : Type 1} → statement M
 gap-start-spec =

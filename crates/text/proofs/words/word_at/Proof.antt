@@ -21,7 +21,20 @@ part-result-end : tie.Need-part-result-end
 part-result-end c = search needs
 
 returns : tie.Need-returns
-returns c = (c .before .before .word-start .result, (c .before .gap-start .result, (c .before .before .word-start .ensures, (c .before .gap-start .ensures, refl))))
+returns c = (
+  c .before .before .word-start .result,
+  (
+    c .before .gap-start .result,
+    (
+      c .before .before .word-start .ensures,
+      (
+        c .before
+            .gap-start .ensures,
+        refl,
+      ),
+    ),
+  ),
+)
 
 pub word-at-spec : {M : Type 1} → statement M
 word-at-spec =
