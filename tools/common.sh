@@ -33,7 +33,7 @@ told() {
         ended=0
         IFS= read -r -t 2 line || ended=$?
         if [ "$ended" -gt 128 ]; then
-            [ -n "$made" ] || echo "proving what has changed, up to $1 (all of it takes some five minutes on two cores)"
+            [ -n "$made" ] || echo "proving what has changed, up to $1 (up to replay all of it takes some seven minutes on two cores)"
             made=1
             continue
         fi
