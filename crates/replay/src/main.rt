@@ -12,213 +12,205 @@ use text::Told;
 ghost use Prim.Native.Nat.{_≤_};
 ghost use lib.ListN.{length};
 
-// ---- the calls
-
-// Damage: puts the bytes into a table, where they end within it. Nothing is printed for it.
-fn poke(
-    table: Table,
-    units: &mut [u8],
-    slots: &mut [u8],
-    reply: &mut [u8],
-    at: usize,
-    bytes: &[u8],
-) -> usize {
-    match table {
-        Table::Units => text::put(units, at, bytes),
-        Table::Slots => text::put(slots, at, bytes),
-        Table::Reply => text::put(reply, at, bytes),
-    }
-    ;
-    0
+// What a run keeps from line to line: the tables and the reply, whether the reasons' words are asked for, and how it went so far.
+struct State {
+    units: [u8; 4096],
+    slots: [u8; 8192],
+    reply: [u8; 512],
+    explain: bool,
+    told: Told,
 }
 
-// ---- a line: each call puts its answer's text into out
+// ---- what is printed
+
+// Prints the first n bytes of out as a line. Says whether all was written, this line and those before it: behind one that was not, none
+// is.
+fn print(out: &mut [u8], n: usize, before: bool) -> bool {
+    if before {
+        let end = text::put(out, n, b"\n");
+        return io::write_all(STDOUT_FILENO, listing::part(&out[..], 0, end));
+    }
+    false
+}
+
+// The line of n bytes of out is printed: was what it answers read?
+fn printed(mut state: State, out: &mut [u8], n: usize, read: bool) -> State {
+    let told = state.told;
+    let written = print(out, n, told.written);
+    state.told = text::one_more(told, read, written);
+    state
+}
+
+// The answer of a call.
+fn answered(state: State, answer: Answer) -> State {
+    let mut out = [0u8; 8192];
+    let reply = state.reply;
+    let n = listing::answer_text(&mut out, answer, &reply, state.explain);
+    printed(state, &mut out, n, true)
+}
+
+// ---- the calls
 
 // Builds a unit record; space starts with the identifier and the two keys.
-fn build_text(
-    units: &mut [u8],
-    unit: UnitNo,
-    method: u32,
-    tag: u32,
-    keeper: u32,
-    space: &[u8],
-    out: &mut [u8],
-) -> usize
+fn build(mut state: State, unit: UnitNo, method: u32, tag: u32, keeper: u32, space: &[u8]) -> State
     requires { ⌜ 56 ≤ length (now space) ⌝ }
 {
     let mut identifier = [0u8; 16];
     wire::put(&mut identifier, 0, &space[0..16]);
-    let auth_key = wire::bytes20(space, 16);
-    let gen_key = wire::bytes20(space, 36);
+    let auth = wire::bytes20(space, 16);
+    let generation = wire::bytes20(space, 36);
+    let mut units = state.units;
     let answer = calls::build(
-        units,
+        &mut units,
         unit,
         method,
         tag,
         &identifier,
-        &auth_key,
-        &gen_key,
+        &auth,
+        &generation,
         keeper,
     );
-    listing::answer_text(out, answer, b"", false)
+    state.units = units;
+    answered(state, answer)
 }
 
-fn open_text(
-    units: &[u8],
-    slots: &mut [u8],
-    reply: &mut [u8],
-    unit: UnitNo,
-    clock: u64,
-    command: &[u8],
-    token: &[u8],
-    explain: bool,
-    out: &mut [u8],
-) -> usize {
-    let made = calls::open(units, slots, reply, unit, command, token, clock);
+fn open(mut state: State, unit: UnitNo, clock: u64, command: &[u8], token: &[u8]) -> State {
+    let units = state.units;
+    let mut slots = state.slots;
+    let mut reply = state.reply;
+    let made = calls::open(&units, &mut slots, &mut reply, unit, command, token, clock);
+    state.slots = slots;
+    state.reply = reply;
     let answer = made.answer;
-    listing::answer_text(out, answer, &reply[..], explain)
+    answered(state, answer)
 }
 
-fn close_text(
-    units: &mut [u8],
-    slots: &mut [u8],
-    reply: &[u8],
-    slot: SlotNo,
-    clock: u64,
-    list: &[u8],
-    explain: bool,
-    out: &mut [u8],
-) -> usize {
-    let made = calls::close(units, slots, reply, slot, list, clock);
+fn close(mut state: State, slot: SlotNo, clock: u64, list: &[u8]) -> State {
+    let mut units = state.units;
+    let mut slots = state.slots;
+    let reply = state.reply;
+    let made = calls::close(&mut units, &mut slots, &reply, slot, list, clock);
+    state.units = units;
+    state.slots = slots;
     let answer = made.answer;
-    listing::answer_text(out, answer, reply, explain)
+    answered(state, answer)
 }
 
-// The calls that read the tables alone: what they show of them.
-fn shown_text(call: Call, units: &[u8], slots: &[u8], reply: &[u8], out: &mut [u8]) -> usize {
-    match call {
-        Call::State => listing::state_text(out, units, slots, reply),
-        Call::ShowUnit(unit) => show::put_unit(out, 0, units, unit),
-        Call::ShowSlot(slot) => show::put_slot(out, 0, slots, slot),
-        Call::ShowAll => show::put_all(out, 0, units, slots),
-        _ => 0,
+fn abort(mut state: State, slot: SlotNo) -> State {
+    let mut slots = state.slots;
+    let answer = calls::abort(&mut slots, slot);
+    state.slots = slots;
+    answered(state, answer)
+}
+
+fn reset(mut state: State) -> State {
+    let mut slots = state.slots;
+    let answer = calls::reset(&mut slots);
+    state.slots = slots;
+    answered(state, answer)
+}
+
+// Damage: puts the bytes into a table, where they end within it. Nothing is printed for it.
+fn poke(mut state: State, table: Table, at: usize, bytes: &[u8]) -> State {
+    let mut units = state.units;
+    let mut slots = state.slots;
+    let mut reply = state.reply;
+    match table {
+        Table::Units => text::put(&mut units, at, bytes),
+        Table::Slots => text::put(&mut slots, at, bytes),
+        Table::Reply => text::put(&mut reply, at, bytes),
     }
+    ;
+    state.units = units;
+    state.slots = slots;
+    state.reply = reply;
+    state
 }
 
-// Does what a line asks for that is no build, open or close, and answers as obey does.
-fn obey_other(
-    call: Call,
-    n: u64,
-    units: &mut [u8],
-    slots: &mut [u8],
-    reply: &mut [u8],
-    space: &[u8],
-    out: &mut [u8],
-) -> usize {
-    match call {
-        Call::Abort(slot) => listing::answer_text(out, calls::abort(slots, slot), b"", false),
-        Call::Reset => listing::answer_text(out, calls::reset(slots), b"", false),
-        Call::Poke { table, at, bytes } => {
-            let b = listing::part(space, 0, bytes);
-            poke(table, units, slots, reply, at, b)
-        }
-        Call::Wrong { fault, word } => listing::fault_text(out, n, word, fault),
-        _ => shown_text(call, &units[..], &slots[..], &reply[..], out),
-    }
+// ---- the lines
+
+// The digests of the three buffers.
+fn digests(state: State) -> State {
+    let mut out = [0u8; 8192];
+    let units = state.units;
+    let slots = state.slots;
+    let reply = state.reply;
+    let n = listing::state_text(&mut out, &units, &slots, &reply);
+    printed(state, &mut out, n, true)
 }
 
-// Does what line n asks for, and answers how many bytes of out are to be printed for it.
-fn obey(
-    call: Call,
-    n: u64,
-    explain: bool,
-    units: &mut [u8],
-    slots: &mut [u8],
-    reply: &mut [u8],
-    space: &[u8],
-    out: &mut [u8],
-) -> usize
+fn show_unit(state: State, unit: UnitNo) -> State {
+    let mut out = [0u8; 8192];
+    let units = state.units;
+    let n = show::put_unit(&mut out, 0, &units, unit);
+    printed(state, &mut out, n, true)
+}
+
+fn show_slot(state: State, slot: SlotNo) -> State {
+    let mut out = [0u8; 8192];
+    let slots = state.slots;
+    let n = show::put_slot(&mut out, 0, &slots, slot);
+    printed(state, &mut out, n, true)
+}
+
+fn show_all(state: State) -> State {
+    let mut out = [0u8; 8192];
+    let units = state.units;
+    let slots = state.slots;
+    let n = show::put_all(&mut out, 0, &units, &slots);
+    printed(state, &mut out, n, true)
+}
+
+fn explain(mut state: State, on: bool) -> State {
+    state.explain = on;
+    state
+}
+
+// Line n can't be read.
+fn unread(state: State, n: u64, word: u32, fault: Fault) -> State {
+    let mut out = [0u8; 8192];
+    let end = listing::fault_text(&mut out, n, word, fault);
+    printed(state, &mut out, end, false)
+}
+
+// Does what line n asks for; the byte strings of the call are in space.
+fn obey(state: State, call: Call, n: u64, space: &[u8]) -> State
     requires { ⌜ 56 ≤ length (now space) ⌝ }
 {
     match call {
+        Call::Blank => state,
         Call::Build {
             unit,
             method,
             tag,
             keeper,
-        } => build_text(units, unit, method, tag, keeper, space, out),
+        } => build(state, unit, method, tag, keeper, space),
         Call::Open {
             unit,
             clock,
             command,
             token,
-        } => {
-            let c = listing::part(space, 0, command);
-            let t = listing::part(space, command, token);
-            open_text(&units[..], slots, reply, unit, clock, c, t, explain, out)
-        }
+        } => open(
+            state,
+            unit,
+            clock,
+            listing::part(space, 0, command),
+            listing::part(space, command, token),
+        ),
         Call::Close { slot, clock, list } => {
-            let d = listing::part(space, 0, list);
-            close_text(units, slots, &reply[..], slot, clock, d, explain, out)
+            close(state, slot, clock, listing::part(space, 0, list))
         }
-        _ => obey_other(call, n, units, slots, reply, space, out),
-    }
-}
-
-// Prints the first n bytes of out as a line; no bytes, no line. Says whether all was written, this line and those before it: behind one
-// that was not, none is.
-fn print(out: &mut [u8], n: usize, before: bool) -> bool {
-    if choice::or(n == 0, !before) {
-        return before;
-    }
-    let end = text::put(out, n, b"\n");
-    io::write_all(STDOUT_FILENO, listing::part(&out[..], 0, end))
-}
-
-// ---- the listing
-
-// Whether the reasons' words are asked for, from here on, and how the run went so far.
-struct State {
-    explain: bool,
-    told: Told,
-}
-
-// Can the line be read?
-fn is_read(call: Call) -> bool {
-    match call {
-        Call::Wrong { fault: _, word: _ } => false,
-        _ => true,
-    }
-}
-
-// Are the reasons' words asked for after this call?
-fn explains(call: Call, before: bool) -> bool {
-    match call {
-        Call::Explain(on) => on,
-        _ => before,
-    }
-}
-
-// Obeys line n, which asks for the call.
-fn obey_call(
-    call: Call,
-    n: u64,
-    state: State,
-    units: &mut [u8],
-    slots: &mut [u8],
-    reply: &mut [u8],
-    space: &[u8],
-) -> State
-    requires { ⌜ 56 ≤ length (now space) ⌝ }
-{
-    let mut out = [0u8; 8192];
-    let explain = explains(call, state.explain);
-    let told = state.told;
-    let used = obey(call, n, explain, units, slots, reply, space, &mut out);
-    let written = print(&mut out, used, told.written);
-    State {
-        explain,
-        told: text::one_more(told, is_read(call), written),
+        Call::Abort(slot) => abort(state, slot),
+        Call::Reset => reset(state),
+        Call::Poke { table, at, bytes } => {
+            poke(state, table, at, listing::part(space, 0, bytes))
+        }
+        Call::State => digests(state),
+        Call::ShowUnit(unit) => show_unit(state, unit),
+        Call::ShowSlot(slot) => show_slot(state, slot),
+        Call::ShowAll => show_all(state),
+        Call::Explain(on) => explain(state, on),
+        Call::Wrong { fault, word } => unread(state, n, word, fault),
     }
 }
 
@@ -235,46 +227,13 @@ fn call_of(line: &[u8], used: usize, space: &mut [u8]) -> Call {
 }
 
 // Obeys line n, which has `used` bytes.
-fn obey_line(
-    line: &[u8],
-    used: usize,
-    n: u64,
-    state: State,
-    units: &mut [u8],
-    slots: &mut [u8],
-    reply: &mut [u8],
-) -> State {
+fn obey_line(state: State, line: &[u8], used: usize, n: u64) -> State {
     let mut space = [0u8; 4096];
     let call = call_of(line, used, &mut space);
-    obey_call(call, n, state, units, slots, reply, &space)
+    obey(state, call, n, &space)
 }
 
-fn at_start() -> State {
-    let told = Told {
-        unread: 0,
-        written: true,
-    };
-    State {
-        explain: false,
-        told,
-    }
-}
-
-// Obeys every line of standard input, and says how it went.
-fn run(line: &mut [u8], chunk: &mut [u8], units: &mut [u8], slots: &mut [u8], reply: &mut [u8]) {
-    let mut input = text::at_start();
-    let mut state = at_start();
-    let mut n = 0;
-    while 0 < input.left {
-        let next = text::next_line(line, chunk, input);
-        input = next.input;
-        if next.found {
-            n = text::counted(n);
-            state = obey_line(line, next.used, n, state, units, slots, reply);
-        }
-    }
-    text::report(b"replay", input.failed, state.told);
-}
+// ---- the listing
 
 // Makes every record of a table blank: an unused unit, a free slot.
 fn make_fresh(table: &mut [u8]) {
@@ -287,13 +246,42 @@ fn make_fresh(table: &mut [u8]) {
     }
 }
 
+fn at_start() -> State {
+    let mut units = [0u8; 4096];
+    let mut slots = [0u8; 8192];
+    make_fresh(&mut units);
+    make_fresh(&mut slots);
+    let told = Told {
+        unread: 0,
+        written: true,
+    };
+    State {
+        units,
+        slots,
+        reply: [0u8; 512],
+        explain: false,
+        told,
+    }
+}
+
+// Obeys every line of standard input, and says how it went.
+fn run(line: &mut [u8], chunk: &mut [u8]) {
+    let mut input = text::at_start();
+    let mut state = at_start();
+    let mut n = 0;
+    while 0 < input.left {
+        let next = text::next_line(line, chunk, input);
+        input = next.input;
+        if next.found {
+            n = text::counted(n);
+            state = obey_line(state, line, next.used, n);
+        }
+    }
+    text::report(b"replay", input.failed, state.told);
+}
+
 fn main() {
     let mut line = [0u8; 4096];
     let mut chunk = io::buffer();
-    let mut units = [0u8; 4096];
-    let mut slots = [0u8; 8192];
-    let mut reply = [0u8; 512];
-    make_fresh(&mut units);
-    make_fresh(&mut slots);
-    run(&mut line, &mut chunk, &mut units, &mut slots, &mut reply);
+    run(&mut line, &mut chunk);
 }

@@ -7,13 +7,11 @@ use Rattle.replay.proofs.run.Statement.{statement}
 use Rattle.replay.proofs.run.Tie as tie
 
 abbrev Inv-loop : tie.InvT-loop
-Inv-loop line₀ chunk₀ units₀ slots₀ reply₀ input₀ state₀ n₀ t10 line chunk units slots reply input state n =
+Inv-loop line₀ chunk₀ input₀ state₀ n₀ t7 line chunk input state n =
     (input .next ≤ input .end) × (input .end ≤ length chunk) × (length line ≡ length line₀) × (length chunk ≡ length chunk₀)
-    × (length units ≡ length units₀) × (length slots ≡ length slots₀) × (length reply ≡ length reply₀)
 
 abbrev μ-loop : tie.MeasureT-loop
-μ-loop line₀ chunk₀ units₀ slots₀ reply₀ input₀ state₀ n₀ t10 line chunk units slots reply input state n =
-    input .left
+μ-loop line₀ chunk₀ input₀ state₀ n₀ t7 line chunk input state n = input .left
 
 at-start-requires : tie.Need-at-start-requires Inv-loop μ-loop
 at-start-requires c κs = search needs
@@ -57,15 +55,6 @@ same-length c = search needs
 same-length-2 : tie.Need-same-length-2 Inv-loop μ-loop
 same-length-2 c = search needs
 
-same-length-3 : tie.Need-same-length-3 Inv-loop μ-loop
-same-length-3 c = search needs
-
-same-length-4 : tie.Need-same-length-4 Inv-loop μ-loop
-same-length-4 c = search needs
-
-same-length-5 : tie.Need-same-length-5 Inv-loop μ-loop
-same-length-5 c = search needs
-
 returns : tie.Need-returns Inv-loop μ-loop
 returns c = search needs
 
@@ -89,7 +78,4 @@ run-spec =
     report-requires
     same-length
     same-length-2
-    same-length-3
-    same-length-4
-    same-length-5
     returns)
