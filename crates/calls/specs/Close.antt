@@ -3,21 +3,21 @@
 use Rattle.std.specs.Prelude.{List, ℕ}
 use Rattle.choice.specs.Choice.{pick}
 use Rattle.model.specs.declared.Answer.TheVariants.{H1, H3}
-use Rattle.slots.specs.Slot.{slot_at, slotUnit, slotCommand, slotToken, freed}
-use Rattle.calls.specs.Outcome.{Lent, Outcome, gives, withSlots, rightlyLent}
+use Rattle.slots.specs.Slot.{slot_at, slot_unit, slot_command, slot_token, freed}
+use Rattle.calls.specs.Outcome.{Lent, Outcome, gives, with_slots, rightly_lent}
 use Rattle.calls.specs.Slots.{holds}
 use Rattle.calls.specs.Whole.{Asked, asked, whole}
 use Rattle.calls.specs.Open.{answered}
 
 -- the command that a slot's record holds
-abbrev pub heldBy : List ℕ → Asked
-heldBy rec = asked (slotUnit rec) (slotCommand rec) (slotToken rec)
+abbrev pub held_by : List ℕ → Asked
+held_by rec = asked (slot_unit rec) (slot_command rec) (slot_token rec)
 
 -- H1 before all, then H3; else the command that the slot holds is judged by 1 to 19 from the close's own clock, and its slot is free
-unfoldable pub closeOut : Lent → ℕ → List ℕ → ℕ → Outcome
-closeOut l s d clock =
-    pick (rightlyLent l)
+unfoldable pub close_out : Lent → ℕ → List ℕ → ℕ → Outcome
+close_out l s d clock =
+    pick (rightly_lent l)
     (pick (holds l.tabled.slots s)
-    (answered (withSlots (freed s l.tabled.slots) l) (whole l.tabled.units (heldBy (slot_at s l.tabled.slots)) d clock))
+    (answered (with_slots (freed s l.tabled.slots) l) (whole l.tabled.units (held_by (slot_at s l.tabled.slots)) d clock))
     (gives H3 l))
     (gives H1 l)

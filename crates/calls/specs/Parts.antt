@@ -5,9 +5,9 @@ use Rattle.calls.specs.Outcome.{TableOutcome, leaves}
 use Rattle.calls.specs.Whole.{Local, Whole}
 
 -- the reply, with the written bytes at its front
-abbrev pub onReply : List ℕ → Local → TableOutcome
-onReply reply x = leaves x.answer (patch reply 0 x.written)
+abbrev pub on_reply : List ℕ → Local → TableOutcome
+on_reply reply x = leaves x.answer (patch reply 0 x.written)
 
 -- the unit table
-abbrev pub onUnits : Whole → TableOutcome
-onUnits w = leaves w.answer w.units
+abbrev pub on_units : Whole → TableOutcome
+on_units w = leaves w.answer w.units

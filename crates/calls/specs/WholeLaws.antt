@@ -6,139 +6,139 @@ use Rattle.std.proofs.Math.Bool.{true, false}
 use mathlib.Core.List.{List, [], ◌++◌}
 use Rattle.std.proofs.lemmas.Bool.{not-false}
 use Rattle.choice.specs.Choice.{both, pick}
-use Rattle.choice.specs.ChoiceLaws.{second-false}
+use Rattle.choice.specs.ChoiceLaws.{second_false}
 use Rattle.wire.specs.Bytes.{part}
-use Rattle.model.specs.Protocol.{protocolIn, protocolOut, seedIn}
-use Rattle.model.specs.Codes.{dataOut}
-use Rattle.model.specs.CodeLaws.{legal-some}
+use Rattle.model.specs.Protocol.{protocol_in, protocol_out, seed_in}
+use Rattle.model.specs.Codes.{data_out}
+use Rattle.model.specs.CodeLaws.{legal_some}
 use Rattle.model.specs.Refusal.{refusal}
 use Rattle.model.specs.Totals.{total_of}
 use Rattle.model.specs.declared.Answer.TheVariants.{Good, Run}
-use Rattle.slots.specs.Slot.{slotStateOf, slotCommand, commandLength}
-use Rattle.slots.specs.SlotLaws.{open-sound}
+use Rattle.slots.specs.Slot.{slot_state_of, slot_command, command_length}
+use Rattle.slots.specs.SlotLaws.{open_sound}
 use Rattle.slots.specs.declared.SlotState.TheVariants.{Open}
-use Rattle.judge.specs.Command.{code_of, page_of, lengthField}
+use Rattle.judge.specs.Command.{code_of, page_of, length_field}
 use Rattle.judge.specs.Seen.{Seen}
-use Rattle.judge.specs.Judgement.{first, pageTests, openTests, openReason}
+use Rattle.judge.specs.Judgement.{first, page_tests, open_tests, open_reason}
 use Rattle.judge.specs.Order.{or_else}
-use Rattle.judge.specs.TestLaws.{first-append, first-none, none_first, else-none, second-asked, second-left, NoneApply, append-none, named-append}
-use Rattle.judge.specs.JudgementLaws.{open-named, none-refuse}
-use Rattle.pages.specs.Out.{wrongList}
-use Rattle.calls.specs.Whole.{listTests, closeReason, nothing, local, isReplied, replyTo, madeBy, passed, judged}
+use Rattle.judge.specs.TestLaws.{first_append, first_none, none_first, else_none, second_asked, second_left, NoneApply, append_none, named_append}
+use Rattle.judge.specs.JudgementLaws.{open_named, none_refuse}
+use Rattle.pages.specs.Out.{wrong_list}
+use Rattle.calls.specs.Whole.{list_tests, close_reason, nothing, local, is_replied, reply_to, made_by, passed, judged}
 
 -- ---- the reason: that of an open, and where there is none that of the list
 
 module _ (s : Seen) (c token d : List ℕ) (clock : ℕ) where
-  module _ (e : ℕ) (he : e ≡ openReason s c token clock) where
-    pub close_late : e ≡ 0 → (r : ℕ) → r ≡ first (listTests c d) → r ≡ closeReason s c token d clock
-    unfolding openReason closeReason
-    close_late z r h = second-asked (openTests s c token clock) (listTests c d) (open-named s c token clock) e he z r h
+  module _ (e : ℕ) (he : e ≡ open_reason s c token clock) where
+    pub close_late : e ≡ 0 → (r : ℕ) → r ≡ first (list_tests c d) → r ≡ close_reason s c token d clock
+    unfolding open_reason close_reason
+    close_late z r h = second_asked (open_tests s c token clock) (list_tests c d) (open_named s c token clock) e he z r h
 
-    pub close-early : (e ≡ 0 → ⊥) → e ≡ closeReason s c token d clock
-    unfolding openReason closeReason
-    close-early n = second-left (openTests s c token clock) (listTests c d) (open-named s c token clock) e he n
+    pub close_early : (e ≡ 0 → ⊥) → e ≡ close_reason s c token d clock
+    unfolding open_reason close_reason
+    close_early n = second_left (open_tests s c token clock) (list_tests c d) (open_named s c token clock) e he n
 
   -- where a close refuses nothing, neither does an open at its clock
-  pub close-none : closeReason s c token d clock ≡ 0 → (openReason s c token clock ≡ 0) × NoneApply (listTests c d)
-  unfolding openReason closeReason listTests
-  close-none e =
-      let all = first-none (openTests s c token clock ++ listTests c d) (named-append (openTests s c token clock) (listTests c d) (open-named s c token clock) refl) e in
-      let p = append-none (openTests s c token clock) (listTests c d) all in
-      (none_first (openTests s c token clock) p.0, p.1)
+  pub close_none : close_reason s c token d clock ≡ 0 → (open_reason s c token clock ≡ 0) × NoneApply (list_tests c d)
+  unfolding open_reason close_reason list_tests
+  close_none e =
+      let all = first_none (open_tests s c token clock ++ list_tests c d) (named_append (open_tests s c token clock) (list_tests c d) (open_named s c token clock) refl) e in
+      let p = append_none (open_tests s c token clock) (list_tests c d) all in
+      (none_first (open_tests s c token clock) p.0, p.1)
 
 -- a parameter list that passed: as long as its page says, and nothing wrong with it
-pub list-passed : (s : Seen) (c token d : List ℕ) (clock : ℕ) → closeReason s c token d clock ≡ 0 → eqb (code_of c) protocolOut ≡ true
-    → (length d ≡ total_of (page_of c)) × (wrongList (page_of c) d ≡ false)
-unfolding listTests pageTests
-list-passed s c token d clock e t =
-    let n = close-none s c token d clock e in
-    let page = (none-refuse s c token clock n.0).page in
-    let total = eqb-true (lengthField c) (total_of (page_of c)) (not-false _ (second-false (eqb (code_of c) protocolOut) _ t page.0)) in
-    let long = eqb-true (length d) (lengthField c) (not-false _ (second-false (eqb (code_of c) protocolOut) _ t n.1.0)) in
-    (long ∙ total, second-false (eqb (code_of c) protocolOut) (wrongList (page_of c) d) t n.1.1.0)
+pub list_passed : (s : Seen) (c token d : List ℕ) (clock : ℕ) → close_reason s c token d clock ≡ 0 → eqb (code_of c) protocol_out ≡ true
+    → (length d ≡ total_of (page_of c)) × (wrong_list (page_of c) d ≡ false)
+unfolding list_tests page_tests
+list_passed s c token d clock e t =
+    let n = close_none s c token d clock e in
+    let page = (none_refuse s c token clock n.0).page in
+    let total = eqb-true (length_field c) (total_of (page_of c)) (not-false _ (second_false (eqb (code_of c) protocol_out) _ t page.0)) in
+    let long = eqb-true (length d) (length_field c) (not-false _ (second_false (eqb (code_of c) protocol_out) _ t n.1.0)) in
+    (long ∙ total, second_false (eqb (code_of c) protocol_out) (wrong_list (page_of c) d) t n.1.1.0)
 
 -- ---- the list is judged only for B5h, and B5h is data-out
 
 -- a code that carries no data out is not B5h
-pub out-code : (x : ℕ) → dataOut x ≡ false → eqb x protocolOut ≡ false
-unfolding dataOut
-out-code x h = by_cases (eqb x protocolOut) refl
+pub out_code : (x : ℕ) → data_out x ≡ false → eqb x protocol_out ≡ false
+unfolding data_out
+out_code x h = by_cases (eqb x protocol_out) refl
   where
-    by_cases : (b : Bool) → eqb x protocolOut ≡ b → b ≡ false
-    by_cases true e = rw (eqb-true x protocolOut e) at h
+    by_cases : (b : Bool) → eqb x protocol_out ≡ b → b ≡ false
+    by_cases true e = rw (eqb-true x protocol_out e) at h
     by_cases false e = refl
 
 module _ (s : Seen) (c token d : List ℕ) (clock : ℕ) where
-  list-none : eqb (code_of c) protocolOut ≡ false → first (listTests c d) ≡ 0
-  unfolding listTests
-  list-none e = rw e
+  list_none : eqb (code_of c) protocol_out ≡ false → first (list_tests c d) ≡ 0
+  unfolding list_tests
+  list_none e = rw e
 
-  pub same-reason : eqb (code_of c) protocolOut ≡ false → closeReason s c token d clock ≡ openReason s c token clock
-  unfolding openReason closeReason
-  same-reason e =
-      first-append (openTests s c token clock) (listTests c d) (open-named s c token clock)
-      ∙ ap (or_else (first (openTests s c token clock))) (list-none e) ∙ else-none (first (openTests s c token clock))
+  pub same_reason : eqb (code_of c) protocol_out ≡ false → close_reason s c token d clock ≡ open_reason s c token clock
+  unfolding open_reason close_reason
+  same_reason e =
+      first_append (open_tests s c token clock) (list_tests c d) (open_named s c token clock)
+      ∙ ap (or_else (first (open_tests s c token clock))) (list_none e) ∙ else_none (first (open_tests s c token clock))
 
   -- what the data are has no part then
-  pub passed-same : eqb (code_of c) protocolOut ≡ false → (e : List ℕ) → passed s c d ≡ passed s c e
+  pub passed_same : eqb (code_of c) protocol_out ≡ false → (e : List ℕ) → passed s c d ≡ passed s c e
   unfolding passed
-  passed-same n e = rw n
+  passed_same n e = rw n
 
 -- a data-out command is no page that is replied
-pub not-replied : (c : List ℕ) → dataOut (code_of c) ≡ true → isReplied c ≡ false
-unfolding isReplied dataOut
-not-replied c h = by_cases (eqb (code_of c) protocolIn) refl
+pub not_replied : (c : List ℕ) → data_out (code_of c) ≡ true → is_replied c ≡ false
+unfolding is_replied data_out
+not_replied c h = by_cases (eqb (code_of c) protocol_in) refl
   where
-    by_cases : (b : Bool) → eqb (code_of c) protocolIn ≡ b → both b (not (eqb (page_of c) seedIn)) ≡ false
+    by_cases : (b : Bool) → eqb (code_of c) protocol_in ≡ b → both b (not (eqb (page_of c) seed_in)) ≡ false
     by_cases true e =
-        absurd (let z : false ≡ true = rw (eqb-true (code_of c) protocolIn e) at h in let q : ◌≡◌ {A = ℕ} 0 1 = cc in omega arith)
+        absurd (let z : false ≡ true = rw (eqb-true (code_of c) protocol_in e) at h in let q : ◌≡◌ {A = ℕ} 0 1 = cc in omega arith)
     by_cases false e = refl
 
 -- a command that a slot holds carries data out
-pub held-code : (rec : List ℕ) → slotStateOf rec ≡ Open → dataOut (code_of (slotCommand rec)) ≡ true
-unfolding slotCommand
-held-code rec e =
-    let s = open-sound rec e in
-    let n = legal-some (get_or rec 8 0) (commandLength rec) s.legal in
-    let q : get_or (part 8 (commandLength rec) rec) 0 0 ≡ get_or rec 8 0 = get_or-take (commandLength rec) (drop 8 rec) 0 0 (omega arith) ∙ get_or-drop 8 rec 0 0 in
-    ap dataOut q ∙ s.out
+pub held_code : (rec : List ℕ) → slot_state_of rec ≡ Open → data_out (code_of (slot_command rec)) ≡ true
+unfolding slot_command
+held_code rec e =
+    let s = open_sound rec e in
+    let n = legal_some (get_or rec 8 0) (command_length rec) s.legal in
+    let q : get_or (part 8 (command_length rec) rec) 0 0 ≡ get_or rec 8 0 = get_or-take (command_length rec) (drop 8 rec) 0 0 (omega arith) ∙ get_or-drop 8 rec 0 0 in
+    ap data_out q ∙ s.out
 
 -- ---- what a command does that makes no record anew, and writes nothing
 
 module _ (s : Seen) (c d : List ℕ) where
   -- one that is not B5h makes none
-  pub passed-keeps : eqb (code_of c) protocolOut ≡ false → (passed s c d).made ≡ nothing
+  pub passed_keeps : eqb (code_of c) protocol_out ≡ false → (passed s c d).made ≡ nothing
   unfolding passed
-  passed-keeps n = rw n (by-page (isReplied c))
+  passed_keeps n = rw n (by_page_lem (is_replied c))
     where
-      by-page : (b : Bool) → (pick b (local (Good (length (replyTo s c))) (replyTo s c) nothing) (local Run [] nothing)).made ≡ nothing
-      by-page true = refl
-      by-page false = refl
+      by_page_lem : (b : Bool) → (pick b (local (Good (length (reply_to s c))) (reply_to s c) nothing) (local Run [] nothing)).made ≡ nothing
+      by_page_lem true = refl
+      by_page_lem false = refl
 
   -- one that is not replied writes nothing
-  pub passed-silent : isReplied c ≡ false → (passed s c d).written ≡ []
+  pub passed_silent : is_replied c ≡ false → (passed s c d).written ≡ []
   unfolding passed
-  passed-silent n = rw n (by_code (eqb (code_of c) protocolOut))
+  passed_silent n = rw n (by_code (eqb (code_of c) protocol_out))
     where
-      by_code : (b : Bool) → (pick b (local (Good 0) [] (madeBy s (page_of c) d)) (local Run [] nothing)).written ≡ []
+      by_code : (b : Bool) → (pick b (local (Good 0) [] (made_by s (page_of c) d)) (local Run [] nothing)).written ≡ []
       by_code true = refl
       by_code false = refl
 
-  pub judged-silent : isReplied c ≡ false → (r : ℕ) → (judged s c d r).written ≡ []
+  pub judged_silent : is_replied c ≡ false → (r : ℕ) → (judged s c d r).written ≡ []
   unfolding judged
-  judged-silent n r = by-reason (eqb r 0)
+  judged_silent n r = by_reason (eqb r 0)
     where
-      by-reason : (b : Bool) → (pick b (passed s c d) (local (refusal r) [] nothing)).written ≡ []
-      by-reason true = passed-silent n
-      by-reason false = refl
+      by_reason : (b : Bool) → (pick b (passed s c d) (local (refusal r) [] nothing)).written ≡ []
+      by_reason true = passed_silent n
+      by_reason false = refl
 
 -- ---- judged: nothing refused, or refused
 
 module _ (s : Seen) (c d : List ℕ) (r : ℕ) where
-  pub judged-passed : r ≡ 0 → judged s c d r ≡ passed s c d
+  pub judged_passed : r ≡ 0 → judged s c d r ≡ passed s c d
   unfolding judged
-  judged-passed z = rw z
+  judged_passed z = rw z
 
-  pub judged-refused : (r ≡ 0 → ⊥) → judged s c d r ≡ local (refusal r) [] nothing
+  pub judged_refused : (r ≡ 0 → ⊥) → judged s c d r ≡ local (refusal r) [] nothing
   unfolding judged
-  judged-refused n = rw (ne_eqb r 0 n)
+  judged_refused n = rw (ne_eqb r 0 n)

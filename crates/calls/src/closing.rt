@@ -1,19 +1,19 @@
 // Close: the data of a parked command have come; the command is judged again, done or refused, and its slot is free.
 ghost use Rattle.std.specs.Prelude.{◌≡◌, true, false, ◌<◌, eqb, length};
 ghost use Rattle.model.specs.Totals.{total_of};
-ghost use Rattle.units.specs.Unit.{unitState};
+ghost use Rattle.units.specs.Unit.{unit_state};
 ghost use Rattle.units.specs.declared.UnitState.TheVariants.{Used};
-ghost use Rattle.slots.specs.Slot.{slotStateOf};
+ghost use Rattle.slots.specs.Slot.{slot_state_of};
 ghost use Rattle.slots.specs.declared.SlotState.TheVariants.{Open};
 ghost use Rattle.judge.specs.Command.{code_of, page_of, facts_of};
 ghost use Rattle.judge.specs.Seen.{seen};
 ghost use Rattle.judge.specs.Judgement.{first};
-ghost use Rattle.pages.specs.Out.{wrongList};
+ghost use Rattle.pages.specs.Out.{wrong_list};
 ghost use Rattle.calls.specs.Outcome.{leaves, lent, tables, gives};
 ghost use Rattle.calls.specs.Slots.{holds};
-ghost use Rattle.calls.specs.Whole.{listTests, closeReason, isReplied, madeBy, passed, laid, stored, whole};
-ghost use Rattle.calls.specs.Close.{heldBy, closeOut};
-ghost use Rattle.calls.specs.Parts.{onUnits};
+ghost use Rattle.calls.specs.Whole.{list_tests, close_reason, is_replied, made_by, passed, laid, stored, whole};
+ghost use Rattle.calls.specs.Close.{held_by, close_out};
+ghost use Rattle.calls.specs.Parts.{on_units};
 
 use super::opening::{Answered, right_lengths};
 use judge::Facts;
@@ -22,7 +22,7 @@ use model::{Answer, SlotNo, UnitNo};
 // 18 and 19.
 fn list_reason(command: &[u8], facts: Facts, list: &[u8]) -> u8
     requires { facts ≡ facts_of command.now }
-    ensures { result ≡ first (listTests command.now list.now) }
+    ensures { result ≡ first (list_tests command.now list.now) }
 {
     let code = facts.code;
     let page = facts.page;
@@ -43,7 +43,7 @@ fn close_reason(
     clock: u64,
 ) -> u8
     requires { (length units.now ≡ 4096) × (facts ≡ facts_of command.now) }
-    ensures { result ≡ closeReason (seen units.now unit.0) command.now token.now list.now clock }
+    ensures { result ≡ close_reason (seen units.now unit.0) command.now token.now list.now clock }
 {
     let early = judge::open_reason(units, unit, command, facts, token, clock);
     if early == 0 {
@@ -54,8 +54,8 @@ fn close_reason(
 
 // Does what an Out page says, with a list that nothing is wrong with: to the unit's attributes, or to its key set, where its keeper has it.
 fn obey(units: &mut [u8], unit: UnitNo, page: u32, list: &[u8])
-    requires { (length units.old ≡ 4096) × (unit.0 < 8) × (unitState units.old unit.0 ≡ Used) × (length list.now ≡ total_of page) × (wrongList page list.now ≡ false) }
-    ensures { units.new ≡ laid units.old unit.0 (madeBy (seen units.old unit.0) page list.now) }
+    requires { (length units.old ≡ 4096) × (unit.0 < 8) × (unit_state units.old unit.0 ≡ Used) × (length list.now ≡ total_of page) × (wrong_list page list.now ≡ false) }
+    ensures { units.new ≡ laid units.old unit.0 (made_by (seen units.old unit.0) page list.now) }
 {
     if page == model::SET_ATTRIBUTES {
         let a = unit.0 as usize * 512;
@@ -71,8 +71,8 @@ fn obey(units: &mut [u8], unit: UnitNo, page: u32, list: &[u8])
 
 // Answers a command that passed: B5h does what its page says, any other is run by medium or crypto block.
 fn finish(units: &mut [u8], unit: UnitNo, command: &[u8], facts: Facts, list: &[u8]) -> Answer
-    requires { (length units.old ≡ 4096) × (unit.0 < 8) × (unitState units.old unit.0 ≡ Used) × (facts ≡ facts_of command.now) × (isReplied command.now ≡ false) × (eqb (code_of command.now) 0xB5 ≡ true → (length list.now ≡ total_of (page_of command.now)) × (wrongList (page_of command.now) list.now ≡ false)) }
-    ensures { leaves result units.new ≡ onUnits (stored units.old unit.0 (passed (seen units.old unit.0) command.now list.now)) }
+    requires { (length units.old ≡ 4096) × (unit.0 < 8) × (unit_state units.old unit.0 ≡ Used) × (facts ≡ facts_of command.now) × (is_replied command.now ≡ false) × (eqb (code_of command.now) 0xB5 ≡ true → (length list.now ≡ total_of (page_of command.now)) × (wrong_list (page_of command.now) list.now ≡ false)) }
+    ensures { leaves result units.new ≡ on_units (stored units.old unit.0 (passed (seen units.old unit.0) command.now list.now)) }
 {
     let code = facts.code;
     let page = facts.page;
@@ -85,8 +85,8 @@ fn finish(units: &mut [u8], unit: UnitNo, command: &[u8], facts: Facts, list: &[
 
 // The command that a sound open slot holds, judged again.
 fn judge_again(units: &mut [u8], rec: &[u8], list: &[u8], clock: u64) -> Answer
-    requires { (length units.old ≡ 4096) × (length rec.now ≡ 512) × (slotStateOf rec.now ≡ Open) }
-    ensures { leaves result units.new ≡ onUnits (whole units.old (heldBy rec.now) list.now clock) }
+    requires { (length units.old ≡ 4096) × (length rec.now ≡ 512) × (slot_state_of rec.now ≡ Open) }
+    ensures { leaves result units.new ≡ on_units (whole units.old (held_by rec.now) list.now clock) }
 {
     let unit = slots::unit_of(rec);
     let command = slots::command_of(rec);
@@ -120,7 +120,7 @@ pub fn close(
     list: &[u8],
     clock: u64,
 ) -> Answered
-    ensures { gives result.answer (lent (tables units.new slots.new) reply.now) ≡ closeOut (lent (tables units.old slots.old) reply.now) slot.0 list.now clock }
+    ensures { gives result.answer (lent (tables units.new slots.new) reply.now) ≡ close_out (lent (tables units.old slots.old) reply.now) slot.0 list.now clock }
 {
     if right_lengths(units.len(), slots.len(), reply.len()) {
         if is_held(&slots[..], slot) {

@@ -4,8 +4,8 @@ mod opening;
 
 ghost use Rattle.std.specs.Prelude.{◌≡◌, length};
 ghost use Rattle.calls.specs.Outcome.{leaves};
-ghost use Rattle.calls.specs.Build.{rightKeeper, buildOut};
-ghost use Rattle.calls.specs.Slots.{abortOut, resetOut};
+ghost use Rattle.calls.specs.Build.{right_keeper, build_out};
+ghost use Rattle.calls.specs.Slots.{abort_out, reset_out};
 
 pub use closing::close;
 use closing::is_held;
@@ -15,7 +15,7 @@ pub use opening::{Answered, open};
 // May the record of a unit have that in its keeper field? Zero, or one more than the number of another unit that keeps keys.
 fn right_keeper(units: &[u8], unit: UnitNo, keeper: u32) -> bool
     requires { length units.now ≡ 4096 }
-    ensures { result ≡ rightKeeper units.now unit.0 keeper }
+    ensures { result ≡ right_keeper units.now unit.0 keeper }
 {
     if keeper == 0 {
         return true;
@@ -41,7 +41,7 @@ pub fn build(
     gen_key: &[u8; 20],
     keeper: u32,
 ) -> Answer
-    ensures { leaves result units.new ≡ buildOut units.old unit.0 method tag identifier.now auth_key.now gen_key.now keeper }
+    ensures { leaves result units.new ≡ build_out units.old unit.0 method tag identifier.now auth_key.now gen_key.now keeper }
 {
     if units.len() != 4096 {
         return Answer::H1;
@@ -76,7 +76,7 @@ pub fn build(
 
 // Frees an open slot: its command is given up.
 pub fn abort(slots: &mut [u8], slot: SlotNo) -> Answer
-    ensures { leaves result slots.new ≡ abortOut slots.old slot.0 }
+    ensures { leaves result slots.new ≡ abort_out slots.old slot.0 }
 {
     if slots.len() != 8192 {
         return Answer::H1;
@@ -90,7 +90,7 @@ pub fn abort(slots: &mut [u8], slot: SlotNo) -> Answer
 
 // Frees every slot, unsound ones too.
 pub fn reset(slots: &mut [u8]) -> Answer
-    ensures { leaves result slots.new ≡ resetOut slots.old }
+    ensures { leaves result slots.new ≡ reset_out slots.old }
 {
     if slots.len() != 8192 {
         return Answer::H1;

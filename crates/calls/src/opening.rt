@@ -1,14 +1,14 @@
 // Open: a command is judged, and then run by medium or crypto block, replied here, or parked until its data come.
 ghost use Rattle.std.specs.Prelude.{◌≡◌, false, [], ◌≤◌, ◌<◌, eqb, length};
-ghost use Rattle.units.specs.Unit.{unitState};
+ghost use Rattle.units.specs.Unit.{unit_state};
 ghost use Rattle.units.specs.declared.UnitState.TheVariants.{Used};
-ghost use Rattle.slots.specs.Slot.{rightToken, lowestFree};
+ghost use Rattle.slots.specs.Slot.{right_token, lowest_free};
 ghost use Rattle.judge.specs.Command.{code_of, facts_of};
 ghost use Rattle.judge.specs.Seen.{seen};
-ghost use Rattle.calls.specs.Outcome.{leaves, lent, tables, gives, rightLengths};
-ghost use Rattle.calls.specs.Whole.{asked, isReplied, passed};
-ghost use Rattle.calls.specs.Open.{parkedIn, judgedOut, openOut};
-ghost use Rattle.calls.specs.Parts.{onReply};
+ghost use Rattle.calls.specs.Outcome.{leaves, lent, tables, gives, right_lengths};
+ghost use Rattle.calls.specs.Whole.{asked, is_replied, passed};
+ghost use Rattle.calls.specs.Open.{parked_in, judged_out, open_out};
+ghost use Rattle.calls.specs.Parts.{on_reply};
 
 use judge::Facts;
 use model::{Answer, UnitNo};
@@ -22,7 +22,7 @@ pub struct Answered {
 
 // Are the three lent buffers as long as they must be?
 pub fn right_lengths(units: usize, slots: usize, reply: usize) -> bool
-    ensures { result ≡ rightLengths units slots reply }
+    ensures { result ≡ right_lengths units slots reply }
 {
     choice::and(units == 4096, choice::and(slots == 8192, reply == 512))
 }
@@ -30,7 +30,7 @@ pub fn right_lengths(units: usize, slots: usize, reply: usize) -> bool
 // Parks a command in the lowest sound free slot, if there is one.
 fn park(slots: &mut [u8], unit: UnitNo, command: &[u8], token: &[u8]) -> Answer
     requires { (length slots.old ≡ 8192) × (length command.now ≤ 100) × (length token.now ≤ 64) }
-    ensures { leaves result slots.new ≡ parkedIn slots.old (asked unit.0 command.now token.now) (lowestFree slots.old) }
+    ensures { leaves result slots.new ≡ parked_in slots.old (asked unit.0 command.now token.now) (lowest_free slots.old) }
 {
     let found = slots::lowest_free(&slots[..]);
     match found {
@@ -47,7 +47,7 @@ fn park(slots: &mut [u8], unit: UnitNo, command: &[u8], token: &[u8]) -> Answer
 // Is it a page that is replied here?
 fn is_replied(command: &[u8], facts: Facts) -> bool
     requires { facts ≡ facts_of command.now }
-    ensures { result ≡ isReplied command.now }
+    ensures { result ≡ is_replied command.now }
 {
     choice::and(
         facts.code == model::PROTOCOL_IN,
@@ -57,8 +57,8 @@ fn is_replied(command: &[u8], facts: Facts) -> bool
 
 // Answers a command that passed and carries no data out: a page is replied here, the rest is run elsewhere.
 fn answer(reply: &mut [u8], units: &[u8], unit: UnitNo, command: &[u8], facts: Facts) -> Answer
-    requires { (length reply.old ≡ 512) × (length units.now ≡ 4096) × (unit.0 < 8) × (unitState units.now unit.0 ≡ Used) × (facts ≡ facts_of command.now) × (eqb (code_of command.now) 0xB5 ≡ false) }
-    ensures { leaves result reply.new ≡ onReply reply.old (passed (seen units.now unit.0) command.now []) }
+    requires { (length reply.old ≡ 512) × (length units.now ≡ 4096) × (unit.0 < 8) × (unit_state units.now unit.0 ≡ Used) × (facts ≡ facts_of command.now) × (eqb (code_of command.now) 0xB5 ≡ false) }
+    ensures { leaves result reply.new ≡ on_reply reply.old (passed (seen units.now unit.0) command.now []) }
 {
     if is_replied(command, facts) {
         let page = facts.page;
@@ -81,7 +81,7 @@ fn judge_and_answer(
     clock: u64,
 ) -> Answer
     requires { (length units.now ≡ 4096) × (length slots.old ≡ 8192) × (length reply.old ≡ 512) × (length token.now ≤ 64) }
-    ensures { gives result (lent (tables units.now slots.new) reply.new) ≡ judgedOut (lent (tables units.now slots.old) reply.old) (asked unit.0 command.now token.now) clock }
+    ensures { gives result (lent (tables units.now slots.new) reply.new) ≡ judged_out (lent (tables units.now slots.old) reply.old) (asked unit.0 command.now token.now) clock }
 {
     let facts = judge::facts_of(command);
     let code = facts.code;
@@ -105,7 +105,7 @@ pub fn open(
     token: &[u8],
     clock: u64,
 ) -> Answered
-    ensures { gives result.answer (lent (tables units.now slots.new) reply.new) ≡ openOut (lent (tables units.now slots.old) reply.old) (asked unit.0 command.now token.now) clock }
+    ensures { gives result.answer (lent (tables units.now slots.new) reply.new) ≡ open_out (lent (tables units.now slots.old) reply.old) (asked unit.0 command.now token.now) clock }
 {
     if right_lengths(units.len(), slots.len(), reply.len()) {
         if slots::right_token(token.len()) {

@@ -22,7 +22,7 @@ fn hash_at(space: &[u8], end: usize) -> Reply {
     if space.len() < end {
         return none();
     }
-    let digest = sha1::hash(&space[0..end]);
+    let digest = fips180::hash(&space[0..end]);
     Reply { ok: true, digest }
 }
 

@@ -3,7 +3,7 @@
 use Rattle.std.specs.Prelude.{Bool, true, false, List, [], ◌∷◌, ◌++◌, ℕ, zero, suc, ◌+◌, eqb, ltb, length, get_or, take, drop}
 use Rattle.choice.specs.Choice.{pick}
 use Rattle.wire.specs.Bytes.{part}
-use Rattle.model.specs.Codes.{within, cdbLen}
+use Rattle.model.specs.Codes.{within, cdb_len}
 
 -- ---- the first descriptor of a list
 
@@ -11,19 +11,19 @@ use Rattle.model.specs.Codes.{within, cdbLen}
 abbrev pub type_of : List ℕ → ℕ
 type_of l = get_or l 0 0
 
-abbrev pub bodyLength : List ℕ → ℕ
-bodyLength l = get_or l 1 0
+abbrev pub body_length : List ℕ → ℕ
+body_length l = get_or l 1 0
 
 abbrev pub body_of : List ℕ → List ℕ
-body_of l = part 2 (bodyLength l) l
+body_of l = part 2 (body_length l) l
 
 -- the shorter list behind it
 abbrev pub behind : List ℕ → List ℕ
-behind l = drop (bodyLength l + 2) l
+behind l = drop (body_length l + 2) l
 
 -- is it cut off by the end? A type byte alone is, too
-abbrev pub isCut : List ℕ → Bool
-isCut l = ltb (length l) (bodyLength l + 2)
+abbrev pub is_cut : List ℕ → Bool
+is_cut l = ltb (length l) (body_length l + 2)
 
 -- ---- what a list carries: nothing so far, the body of its 40h, or it is wrong
 
@@ -32,10 +32,10 @@ pub data Carried : Type 0 where
   body : List ℕ → Carried
   wrong : Carried
 
-abbrev pub isBody : Carried → Bool
-isBody nothing = false
-isBody (body b) = true
-isBody wrong = false
+abbrev pub is_body : Carried → Bool
+is_body nothing = false
+is_body (body b) = true
+is_body wrong = false
 
 -- a 40h: the first carries its body, of 78 bytes; a repeated one is wrong
 abbrev pub carrying : Carried → List ℕ → Carried
@@ -44,8 +44,8 @@ carrying (body c) b = wrong
 carrying wrong b = wrong
 
 -- one descriptor more: 40h carries, 41h to 4Fh are passed over, any other type is wrong
-unfoldable pub oneMore : Carried → ℕ → List ℕ → Carried
-oneMore c type b = pick (eqb type 0x40) (carrying c b) (pick (within 0x41 0x4F type) c wrong)
+unfoldable pub one_more : Carried → ℕ → List ℕ → Carried
+one_more c type b = pick (eqb type 0x40) (carrying c b) (pick (within 0x41 0x4F type) c wrong)
 
 -- is nothing left?
 abbrev pub is_empty : List ℕ → Bool
@@ -57,27 +57,27 @@ unfoldable pub list_from : ℕ → Carried → List ℕ → Carried
 list_from zero c l = pick (is_empty l) c wrong
 list_from (suc n) c l =
     pick (is_empty l) c
-    (pick (isCut l) wrong
-    (list_from n (oneMore c (type_of l) (body_of l)) (behind l)))
+    (pick (is_cut l) wrong
+    (list_from n (one_more c (type_of l) (body_of l)) (behind l)))
 
 -- ---- the command, reduced to document 01's wrapped form
 
-abbrev pub cdbOf : List ℕ → List ℕ
-cdbOf c = take (cdbLen (get_or c 0 0)) c
+abbrev pub cdb_of : List ℕ → List ℕ
+cdb_of c = take (cdb_len (get_or c 0 0)) c
 
 -- what the bytes behind the CDB carry; a CDB shorter than its code's length is wrong
-unfoldable pub carriedBy : List ℕ → Carried
-carriedBy c = pick (ltb (length c) (cdbLen (get_or c 0 0))) wrong (list_from 4 nothing (drop (cdbLen (get_or c 0 0)) c))
+unfoldable pub carried_by : List ℕ → Carried
+carried_by c = pick (ltb (length c) (cdb_len (get_or c 0 0))) wrong (list_from 4 nothing (drop (cdb_len (get_or c 0 0)) c))
 
 -- can it be reduced? Where not, reason 20 applies
 unfoldable pub reduces : List ℕ → Bool
-reduces c = isBody (carriedBy c)
+reduces c = is_body (carried_by c)
 
 -- the CDB and the 78 bytes; no bytes where it can't be reduced
-abbrev pub wrappedWith : List ℕ → Carried → List ℕ
-wrappedWith cdb nothing = []
-wrappedWith cdb (body b) = cdb ++ b
-wrappedWith cdb wrong = []
+abbrev pub wrapped_with : List ℕ → Carried → List ℕ
+wrapped_with cdb nothing = []
+wrapped_with cdb (body b) = cdb ++ b
+wrapped_with cdb wrong = []
 
 unfoldable pub reduced : List ℕ → List ℕ
-reduced c = wrappedWith (cdbOf c) (carriedBy c)
+reduced c = wrapped_with (cdb_of c) (carried_by c)

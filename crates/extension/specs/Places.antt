@@ -5,7 +5,7 @@ use Rattle.extension.specs.declared.Carrier.{Carrier}
 use Rattle.extension.specs.declared.Carrier.TheVariants.{Nothing, At, Wrong}
 use Rattle.extension.specs.Extension.{Carried, nothing, body, wrong}
 
-abbrev pub carriedAt : List ℕ → Carrier → Carried
-carriedAt c Nothing = nothing
-carriedAt c (At i) = body (part i 78 c)
-carriedAt c Wrong = wrong
+abbrev pub carried_at : List ℕ → Carrier → Carried
+carried_at c Nothing = nothing
+carried_at c (At i) = body (part i 78 c)
+carried_at c Wrong = wrong

@@ -2,8 +2,8 @@
 // 01's wrapped form.
 ghost use Rattle.std.specs.Prelude.{◌≡◌, List, ◌++◌, ℕ, suc, ◌+◌, ◌≤◌, ◌<◌, length, take, drop};
 ghost use Rattle.wire.specs.Bytes.{part, patch};
-ghost use Rattle.extension.specs.Extension.{carrying, oneMore, list_from, reduced};
-ghost use Rattle.extension.specs.Places.{carriedAt};
+ghost use Rattle.extension.specs.Extension.{carrying, one_more, list_from, reduced};
+ghost use Rattle.extension.specs.Places.{carried_at};
 
 // What a list has carried so far: nothing, 78 bytes of the command from a place on, or it is wrong.
 #[derive(Drop)]
@@ -15,7 +15,7 @@ enum Carrier {
 
 // A 40h with n bytes from `at` on.
 fn carrying(before: Carrier, at: usize, n: usize) -> Carrier
-    ensures { (c : List ℕ) → at + n ≤ length c → carriedAt c result ≡ carrying (carriedAt c before) (part at n c) }
+    ensures { (c : List ℕ) → at + n ≤ length c → carried_at c result ≡ carrying (carried_at c before) (part at n c) }
 {
     match before {
         Carrier::Nothing => {
@@ -31,7 +31,7 @@ fn carrying(before: Carrier, at: usize, n: usize) -> Carrier
 
 // One descriptor more, with n bytes from `at` on.
 fn one_more(before: Carrier, kind: u8, at: usize, n: usize) -> Carrier
-    ensures { (c : List ℕ) → at + n ≤ length c → carriedAt c result ≡ oneMore (carriedAt c before) kind (part at n c) }
+    ensures { (c : List ℕ) → at + n ≤ length c → carried_at c result ≡ one_more (carried_at c before) kind (part at n c) }
 {
     if kind == 0x40 {
         return carrying(before, at, n);
@@ -55,7 +55,7 @@ struct Read {
 // The descriptor at `at`. Of one that is cut off nothing is read but that the list is wrong, and nothing is left behind it.
 fn descriptor_at(c: &[u8], at: usize, before: Carrier) -> Read
     requires { at < length c.now }
-    ensures { (at < result.next) × (result.next ≤ length c.now) × ((n : ℕ) → list_from n (carriedAt c.now result.carried) (drop result.next c.now) ≡ list_from (suc n) (carriedAt c.now before) (drop at c.now)) }
+    ensures { (at < result.next) × (result.next ≤ length c.now) × ((n : ℕ) → list_from n (carried_at c.now result.carried) (drop result.next c.now) ≡ list_from (suc n) (carried_at c.now before) (drop at c.now)) }
 {
     let n = wire::at(c, at + 1) as usize;
     if c.len() - at < n + 2 {
@@ -75,7 +75,7 @@ fn descriptor_at(c: &[u8], at: usize, before: Carrier) -> Read
 // The list from `at` on, of at most `left` descriptors: one descriptor, followed by a shorter list. It calls itself no more than `left`
 // times.
 fn list_from(c: &[u8], at: usize, left: u32, before: Carrier) -> Carrier
-    ensures { carriedAt c.now result ≡ list_from left (carriedAt c.now before) (drop at c.now) }
+    ensures { carried_at c.now result ≡ list_from left (carried_at c.now before) (drop at c.now) }
 {
     if c.len() <= at {
         return before;

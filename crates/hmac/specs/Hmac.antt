@@ -2,7 +2,7 @@
 use Rattle.std.specs.Prelude.{ℕ, ◌+◌, ◌-◌, List, ◌++◌, map, length, replicate, leb}
 use Rattle.std.specs.Int.Bits.{bit_xor}
 use Rattle.choice.specs.Choice.{pick}
-use Rattle.sha1.specs.Sha1 as sha1
+use Rattle.fips180.specs.Sha1 as sha1
 
 -- a hash: B, the bytes of its blocks; H, its digest of a message; and how many blocks that digest runs
 pub record Hash : Type 0 where
@@ -25,33 +25,33 @@ unfoldable pub extended : ℕ → List ℕ → List ℕ
 extended n k = k ++ replicate (n - length k) 0
 
 -- K as a string of B bytes
-unfoldable pub keyBlock : Hash → List ℕ → List ℕ
-keyBlock h k = extended h.block (shortened h k)
+unfoldable pub key_block : Hash → List ℕ → List ℕ
+key_block h k = extended h.block (shortened h k)
 
 -- k XOR the byte pad, repeated
 unfoldable pub masked : ℕ → List ℕ → List ℕ
 masked pad k = map (λ b. bit_xor b pad) k
 
 -- the message of the inner pass: (K XOR ipad, text)
-unfoldable pub innerText : Hash → List ℕ → List ℕ → List ℕ
-innerText h k m = masked ipad (keyBlock h k) ++ m
+unfoldable pub inner_text : Hash → List ℕ → List ℕ → List ℕ
+inner_text h k m = masked ipad (key_block h k) ++ m
 
 -- the message of the outer pass: (K XOR opad, H (K XOR ipad, text))
-unfoldable pub outerText : Hash → List ℕ → List ℕ → List ℕ
-outerText h k m = masked opad (keyBlock h k) ++ h.digest (innerText h k m)
+unfoldable pub outer_text : Hash → List ℕ → List ℕ → List ℕ
+outer_text h k m = masked opad (key_block h k) ++ h.digest (inner_text h k m)
 
 -- H (K XOR opad, H (K XOR ipad, text))
 unfoldable pub hmac : Hash → List ℕ → List ℕ → List ℕ
-hmac h k m = h.digest (outerText h k m)
+hmac h k m = h.digest (outer_text h k m)
 
 -- the blocks that a key longer than B bytes costs before the two passes
-unfoldable pub keyBlocks : Hash → List ℕ → ℕ
-keyBlocks h k = pick (leb (length k) h.block) 0 (h.blocks k)
+unfoldable pub key_blocks : Hash → List ℕ → ℕ
+key_blocks h k = pick (leb (length k) h.block) 0 (h.blocks k)
 
 -- the blocks that the HMAC of m under k runs: those of the key, of the inner pass and of the outer pass
-unfoldable pub macBlocks : Hash → List ℕ → List ℕ → ℕ
-macBlocks h k m = keyBlocks h k + (h.blocks (innerText h k m) + h.blocks (outerText h k m))
+unfoldable pub mac_blocks : Hash → List ℕ → List ℕ → ℕ
+mac_blocks h k m = key_blocks h k + (h.blocks (inner_text h k m) + h.blocks (outer_text h k m))
 
 -- SHA-1 as a hash
-abbrev pub bySha1 : Hash
-bySha1 = record { block = 64; digest = sha1.sha1; blocks = sha1.blocks }
+abbrev pub by_sha1 : Hash
+by_sha1 = record { block = 64; digest = sha1.sha1; blocks = sha1.blocks }

@@ -1,14 +1,14 @@
 // HMAC (RFC 2104) with SHA-1: a running state that takes parts one after another, and one call for a whole message.
 ghost use Rattle.std.specs.Prelude.{◌≡◌, List, [], ℕ, ◌≤◌, length};
 ghost use Rattle.md.specs.Parts.{Takes};
-ghost use Rattle.hmac.specs.Hmac.{extended, masked, keyBlock, hmac, bySha1};
+ghost use Rattle.hmac.specs.Hmac.{extended, masked, key_block, hmac, by_sha1};
 ghost use Rattle.hmac.specs.Mac.{MacHolds};
 
 // An HMAC under a key that has taken in a message so far: the hashes of the inner and of the outer pass.
 #[derive(Drop)]
 pub struct Mac {
-    pub inner: sha1::Running,
-    pub outer: sha1::Running,
+    pub inner: fips180::Running,
+    pub outer: fips180::Running,
 }
 
 // A key of at most a block, with zeros after it.
@@ -21,12 +21,12 @@ fn extend(key: &[u8]) -> [u8; 64]
 
 // The key as a block: a longer one is hashed first.
 fn key_block(key: &[u8]) -> [u8; 64]
-    ensures { result ≡ keyBlock bySha1 key.now }
+    ensures { result ≡ key_block by_sha1 key.now }
 {
     if key.len() <= 64 {
         return extend(key);
     }
-    let d = sha1::hash(key);
+    let d = fips180::hash(key);
     extend(&d)
 }
 
@@ -50,8 +50,8 @@ pub fn start(key: &[u8]) -> Mac
     let k = key_block(key);
     let i = mask(k, 0x36);
     let o = mask(k, 0x5c);
-    let inner = sha1::feed(sha1::start(), &i);
-    let outer = sha1::feed(sha1::start(), &o);
+    let inner = fips180::feed(fips180::start(), &i);
+    let outer = fips180::feed(fips180::start(), &o);
     Mac { inner, outer }
 }
 
@@ -61,23 +61,23 @@ pub fn feed(r: Mac, part: &[u8]) -> Mac
 {
     let i = r.inner;
     let o = r.outer;
-    let inner = sha1::feed(i, part);
+    let inner = fips180::feed(i, part);
     Mac { inner, outer: o }
 }
 
 // The HMAC of what r has taken in.
 pub fn finish(r: Mac) -> [u8; 20]
-    ensures { (k m : List ℕ) → MacHolds k r m → result ≡ hmac bySha1 k m }
+    ensures { (k m : List ℕ) → MacHolds k r m → result ≡ hmac by_sha1 k m }
 {
     let i = r.inner;
     let o = r.outer;
-    let d = sha1::finish(i);
-    sha1::finish(sha1::feed(o, &d))
+    let d = fips180::finish(i);
+    fips180::finish(fips180::feed(o, &d))
 }
 
 // The HMAC of a message under a key.
 pub fn hmac_of(key: &[u8], m: &[u8]) -> [u8; 20]
-    ensures { result ≡ hmac bySha1 key.now m.now }
+    ensures { result ≡ hmac by_sha1 key.now m.now }
 {
     finish(feed(start(key), m))
 }

@@ -4,13 +4,13 @@
 use Rattle.std.specs.Prelude.{◌≡◌, ◌⊎◌, false, List, ℕ, ◌+◌, ◌≤◌, min, length}
 use Prim.{Unit}
 use Rattle.words.specs.Words.{bits}
-use Rattle.model.specs.Codes.{cdbLen}
+use Rattle.model.specs.Codes.{cdb_len}
 use Rattle.model.specs.declared.Need.{Need}
 use Rattle.model.specs.declared.Need.TheVariants.{Unknown, Open, Bits, Master}
-use Rattle.units.specs.Unit.{policyTag, identifier}
-use Rattle.judge.specs.Command.{code_of, needFor, isUnlisted, descriptorOf, checkValueOf}
-use Rattle.judge.specs.Descriptor.{format, capMethod, algorithm, expiration, permissions, capTag, descriptorType, descriptorLength, descriptorId}
-use Rattle.judge.specs.Keys.{tagFor}
+use Rattle.units.specs.Unit.{policy_tag, identifier}
+use Rattle.judge.specs.Command.{code_of, need_for, is_unlisted, descriptor_of, check_value_of}
+use Rattle.judge.specs.Descriptor.{format, cap_method, algorithm, expiration, permissions, cap_tag, descriptor_type, descriptor_length, descriptor_id}
+use Rattle.judge.specs.Keys.{tag_for}
 
 -- the permission byte p has every bit that is needed
 abbrev pub Permits : Need → ℕ → Type 0
@@ -23,17 +23,17 @@ Permits (Master needed) p = bits 8 min needed p ≡ needed
 pub record FactsHold (need : Need) (own d : List ℕ) (clock : ℕ) : Type 0 where
   pub unexpired : (expiration d ≡ 0) ⊎ (clock ≤ expiration d)
   pub permitted : Permits need (permissions d)
-  pub tagged : (capTag d ≡ 0) ⊎ (capTag d ≡ policyTag own)
-  pub type-1 : descriptorType d ≡ 1
-  pub length-16 : descriptorLength d ≡ 16
-  pub names-unit : descriptorId d ≡ identifier own
+  pub tagged : (cap_tag d ≡ 0) ⊎ (cap_tag d ≡ policy_tag own)
+  pub type_1 : descriptor_type d ≡ 1
+  pub length_16 : descriptor_length d ≡ 16
+  pub names_unit : descriptor_id d ≡ identifier own
 
 -- the command c at the clock, against a unit's record and under a key
 pub record Checked (own key c token : List ℕ) (clock : ℕ) : Type 0 where
-  pub known : isUnlisted c ≡ false
-  pub wrapped : length c ≡ cdbLen (code_of c) + 78
-  pub format-1 : format (descriptorOf c) ≡ 1
-  pub capkey : capMethod (descriptorOf c) ≡ 1
-  pub algorithm-1 : algorithm (descriptorOf c) ≡ 1
-  pub facts : FactsHold (needFor c) own (descriptorOf c) clock
-  pub verifies : checkValueOf c ≡ tagFor key (descriptorOf c) token
+  pub known : is_unlisted c ≡ false
+  pub wrapped : length c ≡ cdb_len (code_of c) + 78
+  pub format_1 : format (descriptor_of c) ≡ 1
+  pub capkey : cap_method (descriptor_of c) ≡ 1
+  pub algorithm_1 : algorithm (descriptor_of c) ≡ 1
+  pub facts : FactsHold (need_for c) own (descriptor_of c) clock
+  pub verifies : check_value_of c ≡ tag_for key (descriptor_of c) token

@@ -6,12 +6,12 @@ use Rattle.wire.specs.Bytes.{part, number}
 unfoldable pub format : List ℕ → ℕ
 format d = get_or d 0 0 / 16
 
-unfoldable pub keyVersion : List ℕ → ℕ
-keyVersion d = get_or d 0 0 % 16
+unfoldable pub key_version : List ℕ → ℕ
+key_version d = get_or d 0 0 % 16
 
 -- 1 method
-unfoldable pub capMethod : List ℕ → ℕ
-capMethod d = get_or d 1 0
+unfoldable pub cap_method : List ℕ → ℕ
+cap_method d = get_or d 1 0
 
 -- 2-5 algorithm; 6-11 expiration
 unfoldable pub algorithm : List ℕ → ℕ
@@ -24,15 +24,15 @@ expiration d = number 6 6 d
 unfoldable pub permissions : List ℕ → ℕ
 permissions d = get_or d 32 0
 
-unfoldable pub capTag : List ℕ → ℕ
-capTag d = number 4 36 d
+unfoldable pub cap_tag : List ℕ → ℕ
+cap_tag d = number 4 36 d
 
 -- 40 low nibble descriptor type; 41 its length; 42-57 descriptor
-unfoldable pub descriptorType : List ℕ → ℕ
-descriptorType d = get_or d 40 0 % 16
+unfoldable pub descriptor_type : List ℕ → ℕ
+descriptor_type d = get_or d 40 0 % 16
 
-unfoldable pub descriptorLength : List ℕ → ℕ
-descriptorLength d = get_or d 41 0
+unfoldable pub descriptor_length : List ℕ → ℕ
+descriptor_length d = get_or d 41 0
 
-unfoldable pub descriptorId : List ℕ → List ℕ
-descriptorId d = part 42 16 d
+unfoldable pub descriptor_id : List ℕ → List ℕ
+descriptor_id d = part 42 16 d

@@ -14,34 +14,34 @@ abbrev pub named : List Test → Bool
 named [] = true
 named (t ∷ ts) = both (not (eqb t.reason 0)) (named ts)
 
-pub named-append : (xs ys : List Test) → named xs ≡ true → named ys ≡ true → named (xs ++ ys) ≡ true
-named-append [] ys h k = k
-named-append (x ∷ xs) ys h k = let p = both_true (not (eqb x.reason 0)) (named xs) h in rw (p.0, named-append xs ys p.1 k)
+pub named_append : (xs ys : List Test) → named xs ≡ true → named ys ≡ true → named (xs ++ ys) ≡ true
+named_append [] ys h k = k
+named_append (x ∷ xs) ys h k = let p = both_true (not (eqb x.reason 0)) (named xs) h in rw (p.0, named_append xs ys p.1 k)
 
 -- ---- one list behind another
 
-else-step : (b : Bool) (r x y : ℕ) → not (eqb r 0) ≡ true → pick b r (or_else x y) ≡ or_else (pick b r x) y
-else-step true r x y h = rw (not-true (eqb r 0) h)
-else-step false r x y h = refl
+else_step : (b : Bool) (r x y : ℕ) → not (eqb r 0) ≡ true → pick b r (or_else x y) ≡ or_else (pick b r x) y
+else_step true r x y h = rw (not-true (eqb r 0) h)
+else_step false r x y h = refl
 
-pub first-append : (xs ys : List Test) → named xs ≡ true → first (xs ++ ys) ≡ or_else (first xs) (first ys)
-first-append [] ys h = refl
-first-append (x ∷ xs) ys h =
+pub first_append : (xs ys : List Test) → named xs ≡ true → first (xs ++ ys) ≡ or_else (first xs) (first ys)
+first_append [] ys h = refl
+first_append (x ∷ xs) ys h =
     let p = both_true (not (eqb x.reason 0)) (named xs) h in
-    ap (pick x.applies x.reason) (first-append xs ys p.1) ∙ else-step x.applies x.reason (first xs) (first ys) p.0
+    ap (pick x.applies x.reason) (first_append xs ys p.1) ∙ else_step x.applies x.reason (first xs) (first ys) p.0
 
-pub else-first : (r s : ℕ) → (r ≡ 0 → ⊥) → r ≡ or_else r s
-else-first r s n = rw (ne_eqb r 0 n)
+pub else_first : (r s : ℕ) → (r ≡ 0 → ⊥) → r ≡ or_else r s
+else_first r s n = rw (ne_eqb r 0 n)
 
-pub else-none : (r : ℕ) → or_else r 0 ≡ r
-else-none r = by_cases (eqb r 0) refl
+pub else_none : (r : ℕ) → or_else r 0 ≡ r
+else_none r = by_cases (eqb r 0) refl
   where
     by_cases : (b : Bool) → eqb r 0 ≡ b → pick b 0 r ≡ r
     by_cases true e = sym (eqb-true r 0 e)
     by_cases false e = refl
 
-else-assoc : (r s t : ℕ) → or_else r (or_else s t) ≡ or_else (or_else r s) t
-else-assoc r s t = by_cases (eqb r 0) refl
+else_assoc : (r s t : ℕ) → or_else r (or_else s t) ≡ or_else (or_else r s) t
+else_assoc r s t = by_cases (eqb r 0) refl
   where
     by_cases : (b : Bool) → eqb r 0 ≡ b → or_else r (or_else s t) ≡ or_else (or_else r s) t
     by_cases true q = rw q
@@ -51,15 +51,15 @@ else-assoc r s t = by_cases (eqb r 0) refl
 pub first_three : (xs ys zs : List Test) → named xs ≡ true → named ys ≡ true
     → first (xs ++ (ys ++ zs)) ≡ or_else (or_else (first xs) (first ys)) (first zs)
 first_three xs ys zs h k =
-    first-append xs (ys ++ zs) h ∙ ap (or_else (first xs)) (first-append ys zs k) ∙ else-assoc (first xs) (first ys) (first zs)
+    first_append xs (ys ++ zs) h ∙ ap (or_else (first xs)) (first_append ys zs k) ∙ else_assoc (first xs) (first ys) (first zs)
 
 -- the second list is asked where the first says nothing, and else not
 module _ (xs ys : List Test) (h : named xs ≡ true) (e : ℕ) (he : e ≡ first xs) where
-  pub second-asked : e ≡ 0 → (r : ℕ) → r ≡ first ys → r ≡ first (xs ++ ys)
-  second-asked z r k = k ∙ sym (first-append xs ys h ∙ rw (sym he ∙ z))
+  pub second_asked : e ≡ 0 → (r : ℕ) → r ≡ first ys → r ≡ first (xs ++ ys)
+  second_asked z r k = k ∙ sym (first_append xs ys h ∙ rw (sym he ∙ z))
 
-  pub second-left : (e ≡ 0 → ⊥) → e ≡ first (xs ++ ys)
-  second-left n = else-first e (first ys) n ∙ ap (λ (x : ℕ). or_else x (first ys)) he ∙ sym (first-append xs ys h)
+  pub second_left : (e ≡ 0 → ⊥) → e ≡ first (xs ++ ys)
+  second_left n = else_first e (first ys) n ∙ ap (λ (x : ℕ). or_else x (first ys)) he ∙ sym (first_append xs ys h)
 
 -- ---- no test applies
 
@@ -71,31 +71,31 @@ pub none_first : (ts : List Test) → NoneApply ts → first ts ≡ 0
 none_first [] n = refl
 none_first (t ∷ ts) n = rw n.0 (none_first ts n.1)
 
-none-step : (t : Test) (ts : List Test) (b : Bool) → t.applies ≡ b → not (eqb t.reason 0) ≡ true → pick b t.reason (first ts) ≡ 0
+none_step : (t : Test) (ts : List Test) (b : Bool) → t.applies ≡ b → not (eqb t.reason 0) ≡ true → pick b t.reason (first ts) ≡ 0
     → (t.applies ≡ false) × (first ts ≡ 0)
-none-step t ts false q h k = (q, k)
-none-step t ts true q h k =
+none_step t ts false q h k = (q, k)
+none_step t ts true q h k =
     let z : true ≡ false = sym (eq-eqb t.reason 0 k) ∙ not-true (eqb t.reason 0) h in
     let o : ◌≡◌ {A = ℕ} 0 1 = cc in
     absurd (omega arith)
 
-pub first-none : (ts : List Test) → named ts ≡ true → first ts ≡ 0 → NoneApply ts
-first-none [] h e = tt
-first-none (t ∷ ts) h e =
+pub first_none : (ts : List Test) → named ts ≡ true → first ts ≡ 0 → NoneApply ts
+first_none [] h e = tt
+first_none (t ∷ ts) h e =
     let p = both_true (not (eqb t.reason 0)) (named ts) h in
-    let q = none-step t ts t.applies refl p.0 e in
-    (q.0, first-none ts p.1 q.1)
+    let q = none_step t ts t.applies refl p.0 e in
+    (q.0, first_none ts p.1 q.1)
 
-pub none-append : (xs ys : List Test) → NoneApply xs → NoneApply ys → NoneApply (xs ++ ys)
-none-append [] ys p q = q
-none-append (x ∷ xs) ys p q = (p.0, none-append xs ys p.1 q)
+pub none_append : (xs ys : List Test) → NoneApply xs → NoneApply ys → NoneApply (xs ++ ys)
+none_append [] ys p q = q
+none_append (x ∷ xs) ys p q = (p.0, none_append xs ys p.1 q)
 
-pub append-none : (xs ys : List Test) → NoneApply (xs ++ ys) → NoneApply xs × NoneApply ys
-append-none [] ys n = (tt, n)
-append-none (x ∷ xs) ys n = let p = append-none xs ys n.1 in ((n.0, p.0), p.1)
+pub append_none : (xs ys : List Test) → NoneApply (xs ++ ys) → NoneApply xs × NoneApply ys
+append_none [] ys n = (tt, n)
+append_none (x ∷ xs) ys n = let p = append_none xs ys n.1 in ((n.0, p.0), p.1)
 
 -- two groups in the other order refuse nothing together as they did
-pub swapped-none : (xs ys : List Test) → named xs ≡ true → named ys ≡ true → first (xs ++ ys) ≡ 0 → first (ys ++ xs) ≡ 0
-swapped-none xs ys h k e =
-    let p = append-none xs ys (first-none (xs ++ ys) (named-append xs ys h k) e) in
-    none_first (ys ++ xs) (none-append ys xs p.1 p.0)
+pub swapped_none : (xs ys : List Test) → named xs ≡ true → named ys ≡ true → first (xs ++ ys) ≡ 0 → first (ys ++ xs) ≡ 0
+swapped_none xs ys h k e =
+    let p = append_none xs ys (first_none (xs ++ ys) (named_append xs ys h k) e) in
+    none_first (ys ++ xs) (none_append ys xs p.1 p.0)

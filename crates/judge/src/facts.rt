@@ -1,7 +1,7 @@
 // What is worked out of a command once in a call, and handed on by value.
 ghost use Rattle.std.specs.Prelude.{◌≡◌, List, ℕ};
-ghost use Rattle.judge.specs.Command.{facts_of, is_bare, isChange};
-ghost use Rattle.judge.specs.Judgement.{rulesFor};
+ghost use Rattle.judge.specs.Command.{facts_of, is_bare, is_change};
+ghost use Rattle.judge.specs.Judgement.{rules_for};
 
 use model::Need;
 
@@ -34,7 +34,7 @@ pub fn is_bare(command: &[u8], facts: Facts) -> bool
 
 // Is it Change Master Key?
 pub fn is_change(facts: Facts) -> bool
-    ensures { (c : List ℕ) → facts ≡ facts_of c → result ≡ isChange c }
+    ensures { (c : List ℕ) → facts ≡ facts_of c → result ≡ is_change c }
 {
     choice::and(
         facts.code == model::PROTOCOL_OUT,
@@ -44,7 +44,7 @@ pub fn is_change(facts: Facts) -> bool
 
 // Does CAPKEY rule, on the unit with this record?
 pub fn rules_for(own: &[u8], facts: Facts) -> bool
-    ensures { (c : List ℕ) → facts ≡ facts_of c → result ≡ rulesFor own.now c }
+    ensures { (c : List ℕ) → facts ≡ facts_of c → result ≡ rules_for own.now c }
 {
     let need = facts.need;
     let master = model::is_master(need);

@@ -1,28 +1,28 @@
 // The faults of a capability, reasons 7 to 13, each as document 01 words it.
 ghost use Rattle.std.specs.Prelude.{◌≡◌, length};
 ghost use Rattle.units.specs.Unit.{identifier};
-ghost use Rattle.judge.specs.Faults.{wrongFormat, wrongMethod, wrongAlgorithm, expired, lacksBits, lacksNeed, wrongTag, wrongDescriptor};
-ghost use Rattle.judge.specs.Descriptor.{descriptorType, descriptorLength, descriptorId};
+ghost use Rattle.judge.specs.Faults.{wrong_format, wrong_method, wrong_algorithm, expired, lacks_bits, lacks_need, wrong_tag, wrong_descriptor};
+ghost use Rattle.judge.specs.Descriptor.{descriptor_type, descriptor_length, descriptor_id};
 
 use model::Need;
 
 // 7: format not 1h.
 pub fn wrong_format(format: u8) -> bool
-    ensures { result ≡ wrongFormat format }
+    ensures { result ≡ wrong_format format }
 {
     format != 1
 }
 
 // 8: method not CAPKEY where CAPKEY rules, else above 1.
 pub fn wrong_method(rules: bool, method: u8) -> bool
-    ensures { result ≡ wrongMethod rules method }
+    ensures { result ≡ wrong_method rules method }
 {
     if rules { method != 1 } else { 1 < method }
 }
 
 // 9: algorithm not 1, where CAPKEY rules.
 pub fn wrong_algorithm(rules: bool, algorithm: u32) -> bool
-    ensures { result ≡ wrongAlgorithm rules algorithm }
+    ensures { result ≡ wrong_algorithm rules algorithm }
 {
     choice::and(rules, algorithm != 1)
 }
@@ -36,7 +36,7 @@ pub fn is_expired(expiration: u64, clock: u64) -> bool
 
 // A needed permission bit missing.
 fn lacks_bits(needed: u8, permissions: u8) -> bool
-    ensures { result ≡ lacksBits needed permissions }
+    ensures { result ≡ lacks_bits needed permissions }
 {
     let shared = needed & permissions;
     shared != needed
@@ -44,7 +44,7 @@ fn lacks_bits(needed: u8, permissions: u8) -> bool
 
 // 11: a needed permission bit missing. To an unknown command no permission is enough.
 pub fn lacks_need(need: Need, permissions: u8) -> bool
-    ensures { result ≡ lacksNeed need permissions }
+    ensures { result ≡ lacks_need need permissions }
 {
     match need {
         Need::Unknown => true,
@@ -56,7 +56,7 @@ pub fn lacks_need(need: Need, permissions: u8) -> bool
 
 // 12: policy tag not zero and not the unit's.
 pub fn wrong_tag(tag: u32, unit_tag: u32) -> bool
-    ensures { result ≡ wrongTag tag unit_tag }
+    ensures { result ≡ wrong_tag tag unit_tag }
 {
     choice::and(tag != 0, tag != unit_tag)
 }
@@ -64,7 +64,7 @@ pub fn wrong_tag(tag: u32, unit_tag: u32) -> bool
 // 13: type not 1h, length not 16, or identifier not the unit's.
 pub fn wrong_descriptor(descriptor: &[u8], own: &[u8]) -> bool
     requires { (length descriptor.now ≡ 58) × (length own.now ≡ 512) }
-    ensures { result ≡ wrongDescriptor (descriptorType descriptor.now) (descriptorLength descriptor.now) (descriptorId descriptor.now) (identifier own.now) }
+    ensures { result ≡ wrong_descriptor (descriptor_type descriptor.now) (descriptor_length descriptor.now) (descriptor_id descriptor.now) (identifier own.now) }
 {
     let kind = wire::at(descriptor, 40) % 16;
     let len = wire::at(descriptor, 41);

@@ -1,9 +1,9 @@
 // The tests in groups, each with the first of its reasons that applies, or 0.
 ghost use Rattle.std.specs.Prelude.{◌≡◌, length};
 ghost use Rattle.choice.specs.Choice.{pick};
-ghost use Rattle.units.specs.Unit.{unitState};
+ghost use Rattle.units.specs.Unit.{unit_state};
 ghost use Rattle.judge.specs.Command.{facts_of};
-ghost use Rattle.judge.specs.Judgement.{first, isUnused, isUnsound, unitTests, codeTests, lengthTests, wrongProtocol, protocolTests, formTests, factTests, pageTests};
+ghost use Rattle.judge.specs.Judgement.{first, is_unused, is_unsound, unit_tests, code_tests, length_tests, wrong_protocol, protocol_tests, form_tests, fact_tests, page_tests};
 
 use super::facts::Facts;
 use super::faults::{
@@ -21,7 +21,7 @@ pub fn judged(applies: bool, reason: u8, rest: u8) -> u8
 }
 
 fn is_unused(s: UnitState) -> bool
-    ensures { result ≡ isUnused s }
+    ensures { result ≡ is_unused s }
 {
     match s {
         UnitState::Unused => true,
@@ -31,7 +31,7 @@ fn is_unused(s: UnitState) -> bool
 }
 
 fn is_unsound(s: UnitState) -> bool
-    ensures { result ≡ isUnsound s }
+    ensures { result ≡ is_unsound s }
 {
     match s {
         UnitState::Unused => false,
@@ -43,7 +43,7 @@ fn is_unsound(s: UnitState) -> bool
 // 1 and 1b. This is the one place of an open or close that checks the unit's record, and for a sharer its keeper's.
 pub fn unit_reason(units: &[u8], unit: UnitNo) -> u8
     requires { length units.now ≡ 4096 }
-    ensures { result ≡ first (unitTests unit.0 (unitState units.now unit.0)) }
+    ensures { result ≡ first (unit_tests unit.0 (unit_state units.now unit.0)) }
 {
     let u = unit.0;
     if 7 < u {
@@ -56,7 +56,7 @@ pub fn unit_reason(units: &[u8], unit: UnitNo) -> u8
 // 2. A code is listed where it goes by page, or where what it needs is known.
 pub fn code_reason(command: &[u8], facts: Facts) -> u8
     requires { facts ≡ facts_of command.now }
-    ensures { result ≡ first (codeTests command.now) }
+    ensures { result ≡ first (code_tests command.now) }
 {
     let code = facts.code;
     let need = facts.need;
@@ -67,7 +67,7 @@ pub fn code_reason(command: &[u8], facts: Facts) -> u8
 // 3.
 pub fn length_reason(command: &[u8], facts: Facts) -> u8
     requires { facts ≡ facts_of command.now }
-    ensures { result ≡ first (lengthTests command.now) }
+    ensures { result ≡ first (length_tests command.now) }
 {
     let code = facts.code;
     judged(!model::legal_len(code, command.len()), 3, 0)
@@ -76,7 +76,7 @@ pub fn length_reason(command: &[u8], facts: Facts) -> u8
 // What is wrong with an A2h or B5h before its page is looked at.
 fn wrong_protocol(command: &[u8], facts: Facts) -> bool
     requires { facts ≡ facts_of command.now }
-    ensures { result ≡ wrongProtocol command.now }
+    ensures { result ≡ wrong_protocol command.now }
 {
     let need = facts.need;
     let protocol = wire::at(command, 1) != 0x07;
@@ -87,7 +87,7 @@ fn wrong_protocol(command: &[u8], facts: Facts) -> bool
 // 4.
 pub fn protocol_reason(command: &[u8], facts: Facts) -> u8
     requires { facts ≡ facts_of command.now }
-    ensures { result ≡ first (protocolTests command.now) }
+    ensures { result ≡ first (protocol_tests command.now) }
 {
     let code = facts.code;
     let wrong = wrong_protocol(command, facts);
@@ -96,7 +96,7 @@ pub fn protocol_reason(command: &[u8], facts: Facts) -> u8
 
 // 7 to 9.
 pub fn form_reason(rules: bool, descriptor: &[u8]) -> u8
-    ensures { result ≡ first (formTests rules descriptor.now) }
+    ensures { result ≡ first (form_tests rules descriptor.now) }
 {
     let format = wrong_format(wire::at(descriptor, 0) / 16);
     let method = wrong_method(rules, wire::at(descriptor, 1));
@@ -107,7 +107,7 @@ pub fn form_reason(rules: bool, descriptor: &[u8]) -> u8
 // 10 to 13.
 pub fn fact_reason(need: Need, own: &[u8], descriptor: &[u8], clock: u64) -> u8
     requires { (length own.now ≡ 512) × (length descriptor.now ≡ 58) }
-    ensures { result ≡ first (factTests need own.now descriptor.now clock) }
+    ensures { result ≡ first (fact_tests need own.now descriptor.now clock) }
 {
     let expired = is_expired(wire::be48(descriptor, 6), clock);
     let lacking = lacks_need(need, wire::at(descriptor, 32));
@@ -123,7 +123,7 @@ pub fn fact_reason(need: Need, own: &[u8], descriptor: &[u8], clock: u64) -> u8
 // 16 and 17.
 pub fn page_reason(keys: &[u8], command: &[u8], facts: Facts) -> u8
     requires { facts ≡ facts_of command.now }
-    ensures { result ≡ first (pageTests keys.now command.now) }
+    ensures { result ≡ first (page_tests keys.now command.now) }
 {
     let code = facts.code;
     let page = facts.page;

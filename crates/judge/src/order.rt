@@ -1,10 +1,10 @@
 // The judgement of an open in document 01's order: reasons 1 to 17, group by group, the dear checks last.
 ghost use Rattle.std.specs.Prelude.{◌≡◌, true, List, ◌++◌, ℕ, ◌+◌, ◌≤◌, ◌<◌, length};
-ghost use Rattle.model.specs.Codes.{cdbLen, legalLen};
+ghost use Rattle.model.specs.Codes.{cdb_len, legal_len};
 ghost use Rattle.judge.specs.Command.{code_of, facts_of};
 ghost use Rattle.judge.specs.Seen.{seen};
-ghost use Rattle.judge.specs.Judgement.{first, rulesFor, guardTests, earlierTests, laterTests, openReason};
-ghost use Rattle.judge.specs.Order.{or_else, wrappedTests};
+ghost use Rattle.judge.specs.Judgement.{first, rules_for, guard_tests, earlier_tests, later_tests, open_reason};
+ghost use Rattle.judge.specs.Order.{or_else, wrapped_tests};
 
 use super::facts::{Facts, is_bare, rules_for};
 use super::groups::{
@@ -30,8 +30,8 @@ fn wrapped_reason(
     token: &[u8],
     clock: u64,
 ) -> u8
-    requires { (length own.now ≡ 512) × (length keys.now ≡ 512) × (cdbLen (code_of command.now) + 78 ≤ length command.now) × (facts ≡ facts_of command.now) × (rules ≡ rulesFor own.now command.now) }
-    ensures { result ≡ first (wrappedTests own.now keys.now command.now token.now clock) }
+    requires { (length own.now ≡ 512) × (length keys.now ≡ 512) × (cdb_len (code_of command.now) + 78 ≤ length command.now) × (facts ≡ facts_of command.now) × (rules ≡ rules_for own.now command.now) }
+    ensures { result ≡ first (wrapped_tests own.now keys.now command.now token.now clock) }
 {
     let code = facts.code;
     let need = facts.need;
@@ -57,8 +57,8 @@ fn guard_reason(
     token: &[u8],
     clock: u64,
 ) -> u8
-    requires { (length own.now ≡ 512) × (length keys.now ≡ 512) × (legalLen (code_of command.now) (length command.now) ≡ true) × (facts ≡ facts_of command.now) }
-    ensures { result ≡ first (guardTests own.now keys.now command.now token.now clock) }
+    requires { (length own.now ≡ 512) × (length keys.now ≡ 512) × (legal_len (code_of command.now) (length command.now) ≡ true) × (facts ≡ facts_of command.now) }
+    ensures { result ≡ first (guard_tests own.now keys.now command.now token.now clock) }
 {
     let need = facts.need;
     let open_row = model::is_open_row(need);
@@ -77,7 +77,7 @@ fn guard_reason(
 // 1 to 3.
 pub fn earlier_reason(units: &[u8], unit: UnitNo, command: &[u8], facts: Facts) -> u8
     requires { (length units.now ≡ 4096) × (facts ≡ facts_of command.now) }
-    ensures { result ≡ first (earlierTests (seen units.now unit.0) command.now) }
+    ensures { result ≡ first (earlier_tests (seen units.now unit.0) command.now) }
 {
     let of_unit = unit_reason(units, unit);
     let of_code = code_reason(command, facts);
@@ -94,8 +94,8 @@ pub fn later_reason(
     token: &[u8],
     clock: u64,
 ) -> u8
-    requires { (length own.now ≡ 512) × (length keys.now ≡ 512) × (legalLen (code_of command.now) (length command.now) ≡ true) × (facts ≡ facts_of command.now) }
-    ensures { result ≡ first (laterTests own.now keys.now command.now token.now clock) }
+    requires { (length own.now ≡ 512) × (length keys.now ≡ 512) × (legal_len (code_of command.now) (length command.now) ≡ true) × (facts ≡ facts_of command.now) }
+    ensures { result ≡ first (later_tests own.now keys.now command.now token.now clock) }
 {
     let protocol = protocol_reason(command, facts);
     if protocol == 0 {
@@ -116,7 +116,7 @@ pub fn open_reason(
     clock: u64,
 ) -> u8
     requires { (length units.now ≡ 4096) × (facts ≡ facts_of command.now) }
-    ensures { result ≡ openReason (seen units.now unit.0) command.now token.now clock }
+    ensures { result ≡ open_reason (seen units.now unit.0) command.now token.now clock }
 {
     let earlier = earlier_reason(units, unit, command, facts);
     if earlier == 0 {

@@ -171,7 +171,7 @@ fn put_word(out: &mut [u8], at: usize, word: u32) -> usize {
 // The SHA-1 of a buffer, behind a space.
 fn put_digest(out: &mut [u8], at: usize, buffer: &[u8]) -> usize {
     let n = put(out, at, b" ");
-    put_hex(out, n, &sha1::hash(buffer))
+    put_hex(out, n, &fips180::hash(buffer))
 }
 
 // The digests of the three buffers.

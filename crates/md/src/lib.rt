@@ -1,7 +1,7 @@
 // What hashes of Merkle and Damgård's kind with blocks of 64 bytes share: the buffer of a block, and the padded end of a message.
 ghost use Rattle.std.specs.Prelude.{◌≡◌, ◌∷◌, ◌++◌, ◌+◌, ◌-◌, ◌%◌, ◌≤◌, ◌<◌, length, take, replicate};
 ghost use Rattle.std.proofs.Math.Seq.{paste};
-ghost use Rattle.md.specs.Padding.{zerosFor, padding};
+ghost use Rattle.md.specs.Padding.{zeros_for, padding};
 
 // buf with the bytes of s from index at on.
 pub fn put(buf: [u8; 64], at: usize, s: &[u8]) -> [u8; 64]
@@ -19,7 +19,7 @@ pub fn put(buf: [u8; 64], at: usize, s: &[u8]) -> [u8; 64]
 
 // How many zero bytes the padding of a message of total bytes has.
 pub fn zeros_for(total: u64) -> usize
-    ensures { result ≡ zerosFor total }
+    ensures { result ≡ zeros_for total }
 {
     ((119 - total % 64) % 64) as usize
 }
@@ -42,7 +42,7 @@ fn marked(tail: &[u8]) -> [u8; 128]
 // The end of a message of total bytes, in one block or two: tail, its bytes after whole blocks, and then the padding.
 pub fn ending(tail: &[u8], total: u64) -> [u8; 128]
     requires { length tail.now ≡ total % 64 }
-    ensures { take (length tail.now + (zerosFor total + 9)) result ≡ tail.now ++ padding total }
+    ensures { take (length tail.now + (zeros_for total + 9)) result ≡ tail.now ++ padding total }
 {
     let mut b = marked(tail);
     let at = tail.len() + zeros_for(total) + 1;

@@ -2,15 +2,15 @@
 -- docs/RULES.md, 3.1, 3.3.
 use Rattle.std.specs.Prelude.{ℕ, ◌+◌, Bool, false, List, [], ◌∷◌, eqb, leb}
 use Rattle.choice.specs.Choice.{both, either, pick}
-use Rattle.model.specs.Among.{isIn}
+use Rattle.model.specs.Among.{is_in}
 
 -- is the code in the range, both ends in it?
 abbrev pub within : ℕ → ℕ → ℕ → Bool
 within first last code = both (leb first code) (leb code last)
 
 -- the CDB's length, 0 where the code has none
-unfoldable pub cdbLen : ℕ → ℕ
-cdbLen code =
+unfoldable pub cdb_len : ℕ → ℕ
+cdb_len code =
     pick (within 0x00 0x1F code) 6
     (pick (within 0x20 0x5F code) 10
     (pick (within 0x80 0x9F code) 16
@@ -18,11 +18,11 @@ cdbLen code =
     0)))
 
 -- a command is the CDB alone (bare), or 78 bytes more (wrapped); a code without a CDB length has no command
-unfoldable pub legalLen : ℕ → ℕ → Bool
-legalLen code n = pick (eqb (cdbLen code) 0) false (either (eqb n (cdbLen code)) (eqb n (cdbLen code + 78)))
+unfoldable pub legal_len : ℕ → ℕ → Bool
+legal_len code n = pick (eqb (cdb_len code) 0) false (either (eqb n (cdb_len code)) (eqb n (cdb_len code + 78)))
 
-abbrev pub dataOutCodes : List ℕ
-dataOutCodes = 0x0A ∷ 0x15 ∷ 0x2A ∷ 0x2E ∷ 0x55 ∷ 0x8A ∷ 0xAA ∷ 0xB5 ∷ []
+abbrev pub data_out_codes : List ℕ
+data_out_codes = 0x0A ∷ 0x15 ∷ 0x2A ∷ 0x2E ∷ 0x55 ∷ 0x8A ∷ 0xAA ∷ 0xB5 ∷ []
 
-unfoldable pub dataOut : ℕ → Bool
-dataOut code = isIn dataOutCodes code
+unfoldable pub data_out : ℕ → Bool
+data_out code = is_in data_out_codes code

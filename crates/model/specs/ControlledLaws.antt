@@ -5,19 +5,19 @@ use Rattle.model.specs.Rows.{Row, rows}
 use Rattle.model.specs.Controlled.{precedes, ascending, controlled}
 
 -- does each row come before the next?
-abbrev pub inOrder : List Row → Bool
-inOrder [] = true
-inOrder (r ∷ []) = true
-inOrder (r ∷ s ∷ ss) = both (precedes r s) (inOrder (s ∷ ss))
+abbrev pub in_order : List Row → Bool
+in_order [] = true
+in_order (r ∷ []) = true
+in_order (r ∷ s ∷ ss) = both (precedes r s) (in_order (s ∷ ss))
 
-pub ascending-count : length ascending ≡ 31
+pub ascending_count : length ascending ≡ 31
 unfolding ascending rows
-ascending-count = refl
+ascending_count = refl
 
-pub ascending-order : inOrder ascending ≡ true
+pub ascending_order : in_order ascending ≡ true
 unfolding ascending rows
-ascending-order = refl
+ascending_order = refl
 
-pub controlled-length : length controlled ≡ 186
+pub controlled_length : length controlled ≡ 186
 unfolding controlled ascending rows
-controlled-length = refl
+controlled_length = refl

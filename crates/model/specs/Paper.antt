@@ -17,14 +17,14 @@ abbrev answer : No → List ℕ → Paper
 answer n vs = record { no = n; values = vs }
 
 -- A0: status, reply byte count; A1: slot; A2: status; A3: status, sense key, additional code, qualifier, reason; A4: status
-abbrev pub paperOf : Answer → Paper
-paperOf (Good count) = answer (A 0) (0x00 ∷ count ∷ [])
-paperOf (Parked slot) = answer (A 1) (slot.0 ∷ [])
-paperOf Run = answer (A 2) (0x00 ∷ [])
-paperOf (Check s) = answer (A 3) (0x02 ∷ s.key ∷ s.code ∷ s.qualifier ∷ s.reason ∷ [])
-paperOf Full = answer (A 4) (0x28 ∷ [])
-paperOf H1 = answer (H 1) []
-paperOf H2 = answer (H 2) []
-paperOf H3 = answer (H 3) []
-paperOf H4 = answer (H 4) []
-paperOf H5 = answer (H 5) []
+abbrev pub paper_of : Answer → Paper
+paper_of (Good count) = answer (A 0) (0x00 ∷ count ∷ [])
+paper_of (Parked slot) = answer (A 1) (slot.0 ∷ [])
+paper_of Run = answer (A 2) (0x00 ∷ [])
+paper_of (Check s) = answer (A 3) (0x02 ∷ s.key ∷ s.code ∷ s.qualifier ∷ s.reason ∷ [])
+paper_of Full = answer (A 4) (0x28 ∷ [])
+paper_of H1 = answer (H 1) []
+paper_of H2 = answer (H 2) []
+paper_of H3 = answer (H 3) []
+paper_of H4 = answer (H 4) []
+paper_of H5 = answer (H 5) []

@@ -2,7 +2,7 @@
 use Rattle.std.specs.Prelude.{ℕ, ◌≡◌, refl, List, eqb, get_or}
 use Rattle.std.proofs.Common.{sym, ap, ◌∙◌}
 use Rattle.choice.specs.Choice.{pick}
-use Rattle.model.specs.Paper.{No, A, H, Paper, paperOf}
+use Rattle.model.specs.Paper.{No, A, H, Paper, paper_of}
 use Rattle.model.specs.declared.Answer.{Answer}
 use Rattle.model.specs.declared.Answer.TheVariants.{Good, Parked, Run, Check, Full, H1, H2, H3, H4, H5}
 
@@ -15,18 +15,18 @@ read_a n vs =
     (pick (eqb n 3) (Check (record { key = v 1; code = v 2; qualifier = v 3; reason = v 4 }))
     Full)))
 
-readH : ℕ → Answer
-readH n = pick (eqb n 1) H1 (pick (eqb n 2) H2 (pick (eqb n 3) H3 (pick (eqb n 4) H4 H5)))
+read_h : ℕ → Answer
+read_h n = pick (eqb n 1) H1 (pick (eqb n 2) H2 (pick (eqb n 3) H3 (pick (eqb n 4) H4 H5)))
 
 read : No → List ℕ → Answer
 read (A n) vs = read_a n vs
-read (H n) vs = readH n
+read (H n) vs = read_h n
 
 pub answer_of : Paper → Answer
 answer_of p = read p.no p.values
 
-pub answer_back : (a : Answer) → answer_of (paperOf a) ≡ a
-unfolding answer_of read read_a readH
+pub answer_back : (a : Answer) → answer_of (paper_of a) ≡ a
+unfolding answer_of read read_a read_h
 answer_back (Good count) = refl
 answer_back (Parked slot) = refl
 answer_back Run = refl
@@ -38,5 +38,5 @@ answer_back H3 = refl
 answer_back H4 = refl
 answer_back H5 = refl
 
-pub paper-apart : (a b : Answer) → paperOf a ≡ paperOf b → a ≡ b
-paper-apart a b e = sym (answer_back a) ∙ ap answer_of e ∙ answer_back b
+pub paper_apart : (a b : Answer) → paper_of a ≡ paper_of b → a ≡ b
+paper_apart a b e = sym (answer_back a) ∙ ap answer_of e ∙ answer_back b

@@ -1,8 +1,8 @@
 -- The 31 rows of commands and what they need (document 01, "Commands and what they need"), and what is read from them. docs/RULES.md, 3.2.
 use Rattle.std.specs.Prelude.{ℕ, Bool, true, false, not, List, [], ◌∷◌, ◌++◌, map, eqb}
 use Rattle.choice.specs.Choice.{both, either, pick}
-use Rattle.model.specs.Among.{isIn}
-use Rattle.model.specs.Protocol.{protocolIn, protocolOut, pagesOfIn, pagesOfOut, capabilitiesIn, attributesIn, seedIn, controlledIn, setAttributes, seedExchange, setKey, changeMaster}
+use Rattle.model.specs.Among.{is_in}
+use Rattle.model.specs.Protocol.{protocol_in, protocol_out, pages_of_in, pages_of_out, capabilities_in, attributes_in, seed_in, controlled_in, set_attributes, seed_exchange, set_key, change_master}
 use Rattle.model.specs.declared.Need.{Need}
 use Rattle.model.specs.declared.Need.TheVariants.{Unknown, Open, Bits, Master}
 
@@ -10,7 +10,7 @@ use Rattle.model.specs.declared.Need.TheVariants.{Unknown, Open, Bits, Master}
 pub data Needs : Type 0 where
   open_row : Needs
   permission : ℕ → Needs
-  master-row : ℕ → Needs
+  master_row : ℕ → Needs
 
 -- page is 0 where the code has no pages
 pub record Row : Type 0 where
@@ -35,66 +35,66 @@ rows =
     each (permission 0x20) (0x1A ∷ 0x5A ∷ []) ++
     each (permission 0x10) (0x15 ∷ 0x55 ∷ []) ++
     each (permission 0x48) (0x04 ∷ []) ++
-    pages protocolIn open_row (pagesOfIn ∷ pagesOfOut ∷ capabilitiesIn ∷ controlledIn ∷ []) ++
-    pages protocolIn (permission 0x20) (attributesIn ∷ []) ++
-    pages protocolIn (master-row 0x08) (seedIn ∷ []) ++
-    pages protocolOut (master-row 0x08) (setAttributes ∷ seedExchange ∷ setKey ∷ changeMaster ∷ [])
+    pages protocol_in open_row (pages_of_in ∷ pages_of_out ∷ capabilities_in ∷ controlled_in ∷ []) ++
+    pages protocol_in (permission 0x20) (attributes_in ∷ []) ++
+    pages protocol_in (master_row 0x08) (seed_in ∷ []) ++
+    pages protocol_out (master_row 0x08) (set_attributes ∷ seed_exchange ∷ set_key ∷ change_master ∷ [])
 
 -- does the code go by page?
-abbrev pub byPage : ℕ → Bool
-byPage code = isIn (protocolIn ∷ protocolOut ∷ []) code
+abbrev pub by_page : ℕ → Bool
+by_page code = is_in (protocol_in ∷ protocol_out ∷ []) code
 
 -- does any row have the code?
 unfoldable pub listed : ℕ → Bool
-listed code = isIn (map (λ (r : Row). r.code) rows) code
+listed code = is_in (map (λ (r : Row). r.code) rows) code
 
 -- ---- what the table of 256 entries holds
 
-abbrev pub entryFor : Needs → ℕ
-entryFor open_row = 1
-entryFor (permission p) = p
-entryFor (master-row p) = p
+abbrev pub entry_for : Needs → ℕ
+entry_for open_row = 1
+entry_for (permission p) = p
+entry_for (master_row p) = p
 
-abbrev pub entryIn : List Row → ℕ → ℕ
-entryIn [] code = 0
-entryIn (r ∷ rs) code = pick (eqb code r.code) (pick (byPage r.code) 2 (entryFor r.needs)) (entryIn rs code)
+abbrev pub entry_in : List Row → ℕ → ℕ
+entry_in [] code = 0
+entry_in (r ∷ rs) code = pick (eqb code r.code) (pick (by_page r.code) 2 (entry_for r.needs)) (entry_in rs code)
 
 -- 0 for a code that no row has, 1 for open, 2 for by page, else the permission byte
 unfoldable pub entry_of : ℕ → ℕ
-entry_of code = entryIn rows code
+entry_of code = entry_in rows code
 
 -- ---- what a command needs
 
-abbrev pub needBy : Needs → Need
-needBy open_row = Open
-needBy (permission p) = Bits p
-needBy (master-row p) = Master p
+abbrev pub need_by : Needs → Need
+need_by open_row = Open
+need_by (permission p) = Bits p
+need_by (master_row p) = Master p
 
 -- is it the row of a command with that code, and that page where the code goes by page?
 abbrev pub is_row : ℕ → ℕ → Row → Bool
-is_row code page r = both (eqb code r.code) (either (not (byPage r.code)) (eqb page r.page))
+is_row code page r = both (eqb code r.code) (either (not (by_page r.code)) (eqb page r.page))
 
-abbrev pub needIn : List Row → ℕ → ℕ → Need
-needIn [] code page = Unknown
-needIn (r ∷ rs) code page = pick (is_row code page r) (needBy r.needs) (needIn rs code page)
+abbrev pub need_in : List Row → ℕ → ℕ → Need
+need_in [] code page = Unknown
+need_in (r ∷ rs) code page = pick (is_row code page r) (need_by r.needs) (need_in rs code page)
 
 unfoldable pub need_of : ℕ → ℕ → Need
-need_of code page = needIn rows code page
+need_of code page = need_in rows code page
 
-abbrev pub isUnknown : Need → Bool
-isUnknown Unknown = true
-isUnknown Open = false
-isUnknown (Bits p) = false
-isUnknown (Master p) = false
+abbrev pub is_unknown : Need → Bool
+is_unknown Unknown = true
+is_unknown Open = false
+is_unknown (Bits p) = false
+is_unknown (Master p) = false
 
-abbrev pub isOpenRow : Need → Bool
-isOpenRow Unknown = false
-isOpenRow Open = true
-isOpenRow (Bits p) = false
-isOpenRow (Master p) = false
+abbrev pub is_open_row : Need → Bool
+is_open_row Unknown = false
+is_open_row Open = true
+is_open_row (Bits p) = false
+is_open_row (Master p) = false
 
-abbrev pub isMaster : Need → Bool
-isMaster Unknown = false
-isMaster Open = false
-isMaster (Bits p) = false
-isMaster (Master p) = true
+abbrev pub is_master : Need → Bool
+is_master Unknown = false
+is_master Open = false
+is_master (Bits p) = false
+is_master (Master p) = true

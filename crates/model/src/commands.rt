@@ -1,6 +1,6 @@
 // What a command of each operation code needs (document 01, "Commands and what they need").
 ghost use Rattle.std.specs.Prelude.{◌≡◌, true};
-ghost use Rattle.model.specs.Rows.{byPage, entry_of, need_of, isUnknown, isOpenRow, isMaster};
+ghost use Rattle.model.specs.Rows.{by_page, entry_of, need_of, is_unknown, is_open_row, is_master};
 
 use crate::{
     ATTRIBUTES_IN, CAPABILITIES_IN, CHANGE_MASTER, CONTROLLED_IN, Need, PAGES_OF_IN, PAGES_OF_OUT,
@@ -102,7 +102,7 @@ fn out_page_need(page: u32) -> Need
 
 // Does the code go by page?
 pub fn by_page(code: u8) -> bool
-    ensures { result ≡ byPage code }
+    ensures { result ≡ by_page code }
 {
     match code {
         PROTOCOL_IN | PROTOCOL_OUT => true,
@@ -112,7 +112,7 @@ pub fn by_page(code: u8) -> bool
 
 // What a command of a code that goes by page needs; Unknown for an unlisted page.
 fn page_need(code: u8, page: u32) -> Need
-    requires { byPage code ≡ true }
+    requires { by_page code ≡ true }
     ensures { result ≡ need_of code page }
 {
     if code == PROTOCOL_IN {
@@ -136,7 +136,7 @@ pub fn need_of(code: u8, page: u32) -> Need
 
 // Is what it needs unknown?
 pub fn is_unknown(n: Need) -> bool
-    ensures { result ≡ isUnknown n }
+    ensures { result ≡ is_unknown n }
 {
     match n {
         Need::Unknown => true,
@@ -148,7 +148,7 @@ pub fn is_unknown(n: Need) -> bool
 
 // Does it run without papers?
 pub fn is_open_row(n: Need) -> bool
-    ensures { result ≡ isOpenRow n }
+    ensures { result ≡ is_open_row n }
 {
     match n {
         Need::Unknown => false,
@@ -160,7 +160,7 @@ pub fn is_open_row(n: Need) -> bool
 
 // Does it need the master key?
 pub fn is_master(n: Need) -> bool
-    ensures { result ≡ isMaster n }
+    ensures { result ≡ is_master n }
 {
     match n {
         Need::Unknown => false,

@@ -3,8 +3,8 @@ mod commands;
 mod controlled;
 
 ghost use Rattle.std.specs.Prelude.{◌≡◌};
-ghost use Rattle.model.specs.Codes.{cdbLen, dataOut, legalLen};
-ghost use Rattle.model.specs.Refusal.{senseKey, additionalCode, refusal};
+ghost use Rattle.model.specs.Codes.{cdb_len, data_out, legal_len};
+ghost use Rattle.model.specs.Refusal.{sense_key, additional_code, refusal};
 ghost use Rattle.model.specs.Totals.{total_of};
 
 pub use commands::{by_page, is_master, is_open_row, is_unknown, need_of};
@@ -82,14 +82,14 @@ pub enum Need {
 
 // 5h, except reason 1b.
 fn sense_key(reason: u8) -> u8
-    ensures { result ≡ senseKey reason }
+    ensures { result ≡ sense_key reason }
 {
     if reason == 0x1b { 0x4 } else { 0x5 }
 }
 
 // The additional code; the qualifier is 00h for every reason.
 fn additional_code(reason: u8) -> u8
-    ensures { result ≡ additionalCode reason }
+    ensures { result ≡ additional_code reason }
 {
     match reason {
         1 => 0x25,
@@ -117,7 +117,7 @@ pub fn refuse(reason: u8) -> Answer
 
 // The CDB's length, 0 where the code has none.
 pub fn cdb_len(code: u8) -> u32
-    ensures { result ≡ cdbLen code }
+    ensures { result ≡ cdb_len code }
 {
     match code {
         0x00..=0x1F => 6,
@@ -130,7 +130,7 @@ pub fn cdb_len(code: u8) -> u32
 
 // Does a command of this code carry data out?
 pub fn data_out(code: u8) -> bool
-    ensures { result ≡ dataOut code }
+    ensures { result ≡ data_out code }
 {
     match code {
         0x0A | 0x15 | 0x2A | 0x2E | 0x55 | 0x8A | 0xAA | 0xB5 => true,
@@ -140,7 +140,7 @@ pub fn data_out(code: u8) -> bool
 
 // May a command of this code be n bytes long: the CDB alone, or with descriptor and integrity check value after it?
 pub fn legal_len(code: u8, n: usize) -> bool
-    ensures { result ≡ legalLen code n }
+    ensures { result ≡ legal_len code n }
 {
     let cdb = cdb_len(code) as usize;
     if cdb == 0 {

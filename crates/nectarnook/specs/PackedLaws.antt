@@ -3,12 +3,12 @@ use Rattle.std.specs.Prelude.{◌≡◌, List, ℕ}
 use Rattle.std.proofs.Common.{ap, ◌∙◌}
 use Rattle.model.specs.declared.Answer.{Answer}
 use Rattle.calls.specs.Outcome.{TableOutcome, leaves, Lent, Outcome, gives}
-use Rattle.nectarnook.specs.Packed.{packed, returned, packedOut, returnedOne, packedOne}
+use Rattle.nectarnook.specs.Packed.{packed, returned, packed_out, returned_one, packed_one}
 
 -- ---- a call made and its answer packed
 
-pub out-packed : (r : ℕ) (a : Answer) (l : Lent) (o : Outcome) → r ≡ packed a → gives a l ≡ o → returned r l ≡ packedOut o
-out-packed r a l o h e = ap (λ (x : ℕ). returned x l) h ∙ ap packedOut e
+pub out_packed : (r : ℕ) (a : Answer) (l : Lent) (o : Outcome) → r ≡ packed a → gives a l ≡ o → returned r l ≡ packed_out o
+out_packed r a l o h e = ap (λ (x : ℕ). returned x l) h ∙ ap packed_out e
 
-pub one-packed : (r : ℕ) (a : Answer) (t : List ℕ) (o : TableOutcome) → r ≡ packed a → leaves a t ≡ o → returnedOne r t ≡ packedOne o
-one-packed r a t o h e = ap (λ (x : ℕ). returnedOne x t) h ∙ ap packedOne e
+pub one_packed : (r : ℕ) (a : Answer) (t : List ℕ) (o : TableOutcome) → r ≡ packed a → leaves a t ≡ o → returned_one r t ≡ packed_one o
+one_packed r a t o h e = ap (λ (x : ℕ). returned_one x t) h ∙ ap packed_one e

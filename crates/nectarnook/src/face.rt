@@ -1,13 +1,13 @@
 // The five calls for C: each takes pointers with lengths and plain numbers, makes the call and packs the answer into 64 bits. A slice is
 // a pointer and then a length, an array a pointer alone. The buffers of one call must not overlap. include/nectarnook.h declares them.
 ghost use Rattle.std.specs.Prelude.{◌≡◌};
-ghost use Rattle.calls.specs.Build.{buildOut};
-ghost use Rattle.calls.specs.Slots.{abortOut, resetOut};
+ghost use Rattle.calls.specs.Build.{build_out};
+ghost use Rattle.calls.specs.Slots.{abort_out, reset_out};
 ghost use Rattle.calls.specs.Outcome.{lent, tables};
 ghost use Rattle.calls.specs.Whole.{asked};
-ghost use Rattle.calls.specs.Open.{openOut};
-ghost use Rattle.calls.specs.Close.{closeOut};
-ghost use Rattle.nectarnook.specs.Packed.{word, packed, returned, packedOut, returnedOne, packedOne};
+ghost use Rattle.calls.specs.Open.{open_out};
+ghost use Rattle.calls.specs.Close.{close_out};
+ghost use Rattle.nectarnook.specs.Packed.{word, packed, returned, packed_out, returned_one, packed_one};
 
 use model::{Answer, Sense, SlotNo, UnitNo};
 
@@ -67,7 +67,7 @@ pub extern "C" fn nn_build(
     gen_key: &[u8; 20],
     keeper: u32,
 ) -> u64
-    ensures { returnedOne result units.new ≡ packedOne (buildOut units.old unit method tag identifier.now auth_key.now gen_key.now keeper) }
+    ensures { returned_one result units.new ≡ packed_one (build_out units.old unit method tag identifier.now auth_key.now gen_key.now keeper) }
 {
     pack(calls::build(
         units,
@@ -92,7 +92,7 @@ pub extern "C" fn nn_open(
     token: &[u8],
     clock: u64,
 ) -> u64
-    ensures { returned result (lent (tables units.now slots.new) reply.new) ≡ packedOut (openOut (lent (tables units.now slots.old) reply.old) (asked unit command.now token.now) clock) }
+    ensures { returned result (lent (tables units.now slots.new) reply.new) ≡ packed_out (open_out (lent (tables units.now slots.old) reply.old) (asked unit command.now token.now) clock) }
 {
     let made = calls::open(units, slots, reply, UnitNo(unit), command, token, clock);
     let answer = made.answer;
@@ -109,7 +109,7 @@ pub extern "C" fn nn_close(
     list: &[u8],
     clock: u64,
 ) -> u64
-    ensures { returned result (lent (tables units.new slots.new) reply.now) ≡ packedOut (closeOut (lent (tables units.old slots.old) reply.now) slot list.now clock) }
+    ensures { returned result (lent (tables units.new slots.new) reply.now) ≡ packed_out (close_out (lent (tables units.old slots.old) reply.now) slot list.now clock) }
 {
     let made = calls::close(units, slots, reply, SlotNo(slot), list, clock);
     let answer = made.answer;
@@ -119,7 +119,7 @@ pub extern "C" fn nn_close(
 // Gives a parked command up.
 #[unsafe(no_mangle)]
 pub extern "C" fn nn_abort(slots: &mut [u8], slot: u32) -> u64
-    ensures { returnedOne result slots.new ≡ packedOne (abortOut slots.old slot) }
+    ensures { returned_one result slots.new ≡ packed_one (abort_out slots.old slot) }
 {
     pack(calls::abort(slots, SlotNo(slot)))
 }
@@ -127,7 +127,7 @@ pub extern "C" fn nn_abort(slots: &mut [u8], slot: u32) -> u64
 // Frees every slot.
 #[unsafe(no_mangle)]
 pub extern "C" fn nn_reset(slots: &mut [u8]) -> u64
-    ensures { returnedOne result slots.new ≡ packedOne (resetOut slots.old) }
+    ensures { returned_one result slots.new ≡ packed_one (reset_out slots.old) }
 {
     pack(calls::reset(slots))
 }

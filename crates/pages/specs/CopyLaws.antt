@@ -10,6 +10,6 @@ pub copy_more : (d s : List ℕ) (i b : ℕ) → i < length s → i < length d �
 copy_more d s i b hs hd e = rw (add-one i, e) (simp zero-add at (paste-suc d 0 s i 0 (omega arith) hs))
 
 -- n bytes are a patch
-pub copy-patch : (d s : List ℕ) (n : ℕ) → n ≤ length s → take n s ++ drop n d ≡ patch d 0 (take n s)
+pub copy_patch : (d s : List ℕ) (n : ℕ) → n ≤ length s → take n s ++ drop n d ≡ patch d 0 (take n s)
 unfolding patch
-copy-patch d s n h = rw (length-take-le n s h)
+copy_patch d s n h = rw (length-take-le n s h)

@@ -2,54 +2,54 @@
 -- the check is made anew. docs/RULES.md, 6.2.
 use Rattle.std.specs.Prelude.{List, [], ◌∷◌, ◌++◌, ℕ, ◌+◌, ◌-◌, ◌/◌, ◌%◌, ◌^◌, eqb}
 use Rattle.choice.specs.Choice.{pick}
-use Rattle.hmac.specs.Hmac.{hmac, bySha1}
+use Rattle.hmac.specs.Hmac.{hmac, by_sha1}
 use Rattle.seal.specs.Seal.{seal}
-use Rattle.model.specs.Protocol.{seedExchange, setKey, changeMaster}
-use Rattle.units.specs.Unit.{mask, identifier, genKey, nextAuthKey, nextGenKey, withMethod, withMask, with_tag, withStep, withPair, withNextPair, withWorkingKey, withoutNextAndWorking}
-use Rattle.pages.specs.Out.{newVersion, seed, agreed}
+use Rattle.model.specs.Protocol.{seed_exchange, set_key, change_master}
+use Rattle.units.specs.Unit.{mask, identifier, gen_key_of, next_auth_key, next_gen_key, with_method, with_mask, with_tag, with_step, with_pair, with_next_pair, with_working_key, without_next_and_working}
+use Rattle.pages.specs.Out.{new_version, seed, agreed}
 
 -- Set Attributes: method and tag
-unfoldable pub attributesSet : ℕ → ℕ → List ℕ → List ℕ
-attributesSet m t rec = seal (with_tag t (withMethod m rec))
+unfoldable pub attributes_set : ℕ → ℕ → List ℕ → List ℕ
+attributes_set m t rec = seal (with_tag t (with_method m rec))
 
 -- the mask with version v's bit set
-unfoldable pub withBit : ℕ → ℕ → ℕ
-withBit v m = pick (eqb (m / 2 ^ v % 2) 1) m (m + 2 ^ v)
+unfoldable pub with_bit : ℕ → ℕ → ℕ
+with_bit v m = pick (eqb (m / 2 ^ v % 2) 1) m (m + 2 ^ v)
 
 -- Set Key: the working key is HMAC under the generation master key over the seed, and its mask bit is set
-unfoldable pub workingKeySet : ℕ → List ℕ → List ℕ → List ℕ
-workingKeySet v s rec = seal (withWorkingKey v (hmac bySha1 (genKey rec) s) (withMask (withBit v (mask rec)) rec))
+unfoldable pub working_key_set : ℕ → List ℕ → List ℕ → List ℕ
+working_key_set v s rec = seal (with_working_key v (hmac by_sha1 (gen_key_of rec) s) (with_mask (with_bit v (mask rec)) rec))
 
 -- the lowest bit of a byte inverted, and of a list's last byte
 abbrev pub flipped : ℕ → ℕ
 flipped x = pick (eqb (x % 2) 1) (x - 1) (x + 1)
 
-abbrev pub lastFlipped : List ℕ → List ℕ
-lastFlipped [] = []
-lastFlipped (x ∷ []) = flipped x ∷ []
-lastFlipped (x ∷ y ∷ ys) = x ∷ lastFlipped (y ∷ ys)
+abbrev pub last_flipped : List ℕ → List ℕ
+last_flipped [] = []
+last_flipped (x ∷ []) = flipped x ∷ []
+last_flipped (x ∷ y ∷ ys) = x ∷ last_flipped (y ∷ ys)
 
 -- S is the agreed value then the identifier of the unit that keeps the keys (02, K4); next generation key is HMAC under the current
 -- generation master key over S, next authentication key the same over S with the lowest bit of its last byte inverted
-unfoldable pub nextGen : List ℕ → List ℕ → List ℕ
-nextGen value rec = hmac bySha1 (genKey rec) (value ++ identifier rec)
+unfoldable pub next_gen : List ℕ → List ℕ → List ℕ
+next_gen value rec = hmac by_sha1 (gen_key_of rec) (value ++ identifier rec)
 
-unfoldable pub nextAuth : List ℕ → List ℕ → List ℕ
-nextAuth value rec = hmac bySha1 (genKey rec) (lastFlipped (value ++ identifier rec))
+unfoldable pub next_auth : List ℕ → List ℕ → List ℕ
+next_auth value rec = hmac by_sha1 (gen_key_of rec) (last_flipped (value ++ identifier rec))
 
 -- Seed Exchange: the next pair, in the order that the record has, and step 1
 unfoldable pub exchanged : List ℕ → List ℕ → List ℕ
-exchanged value rec = seal (withNextPair (nextAuth value rec) (nextGen value rec) (withStep 1 rec))
+exchanged value rec = seal (with_next_pair (next_auth value rec) (next_gen value rec) (with_step 1 rec))
 
 -- Change: next pair becomes the pair, next and working keys zero, mask 0, step 0
 unfoldable pub changed : List ℕ → List ℕ
-changed rec = seal (withoutNextAndWorking (withPair (nextAuthKey rec) (nextGenKey rec) (withStep 0 (withMask 0 rec))))
+changed rec = seal (without_next_and_working (with_pair (next_auth_key rec) (next_gen_key rec) (with_step 0 (with_mask 0 rec))))
 
 -- what a page with the parameter list d makes of a key set: Set Key, Seed Exchange and Change make its record anew, and any other page
 -- leaves it alone
-unfoldable pub newKeys : ℕ → List ℕ → List ℕ → List ℕ
-newKeys page d keys =
-    pick (eqb page setKey) (workingKeySet (newVersion d) (seed d) keys)
-    (pick (eqb page seedExchange) (exchanged (agreed d) keys)
-    (pick (eqb page changeMaster) (changed keys)
+unfoldable pub new_keys : ℕ → List ℕ → List ℕ → List ℕ
+new_keys page d keys =
+    pick (eqb page set_key) (working_key_set (new_version d) (seed d) keys)
+    (pick (eqb page seed_exchange) (exchanged (agreed d) keys)
+    (pick (eqb page change_master) (changed keys)
     keys))

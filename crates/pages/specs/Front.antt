@@ -3,29 +3,29 @@
 use Rattle.std.specs.Prelude.{◌≡◌, List, ℕ, ◌+◌, eqb}
 use Rattle.choice.specs.Choice.{pick}
 use Rattle.wire.specs.Bytes.{number}
-use Rattle.model.specs.Protocol.{setAttributes, seedExchange, setKey}
+use Rattle.model.specs.Protocol.{set_attributes, seed_exchange, set_key}
 use Rattle.pages.specs.declared.reader.Front.{Front}
 
 -- f is what a reader finds in l, one field behind another, where the three numbers have a, b and c bytes
 pub record AtFront (l : List ℕ) (a b c : ℕ) (f : Front) : Type 0 where
-  pub page-read : f.page ≡ number 2 0 l
-  pub length-read : f.length ≡ number 2 2 l
+  pub page_read : f.page ≡ number 2 0 l
+  pub length_read : f.length ≡ number 2 2 l
   pub first_read : f.first ≡ number a 4 l
-  pub second-read : f.second ≡ number b (4 + a) l
-  pub third-read : f.third ≡ number c (4 + a + b) l
-  pub run-reached : f.run ≡ 4 + a + b + c
+  pub second_read : f.second ≡ number b (4 + a) l
+  pub third_read : f.third ≡ number c (4 + a + b) l
+  pub run_reached : f.run ≡ 4 + a + b + c
 
 -- how wide each is, by the page. Set Attributes: method, tag, zeros; Set Key: version, zeros; Seed Exchange: group, zeros. What a page does
 -- not have has no bytes
-unfoldable pub firstWidth : ℕ → ℕ
-firstWidth page = pick (eqb page setAttributes) 2 (pick (eqb page setKey) 1 (pick (eqb page seedExchange) 2 0))
+unfoldable pub first_width : ℕ → ℕ
+first_width page = pick (eqb page set_attributes) 2 (pick (eqb page set_key) 1 (pick (eqb page seed_exchange) 2 0))
 
-unfoldable pub secondWidth : ℕ → ℕ
-secondWidth page = pick (eqb page setAttributes) 4 (pick (eqb page setKey) 3 (pick (eqb page seedExchange) 2 0))
+unfoldable pub second_width : ℕ → ℕ
+second_width page = pick (eqb page set_attributes) 4 (pick (eqb page set_key) 3 (pick (eqb page seed_exchange) 2 0))
 
-unfoldable pub thirdWidth : ℕ → ℕ
-thirdWidth page = pick (eqb page setAttributes) 2 0
+unfoldable pub third_width : ℕ → ℕ
+third_width page = pick (eqb page set_attributes) 2 0
 
 -- what stands at the front of a list of the page
 abbrev pub FrontOf : ℕ → List ℕ → Front → Type 0
-FrontOf page l f = AtFront l (firstWidth page) (secondWidth page) (thirdWidth page) f
+FrontOf page l f = AtFront l (first_width page) (second_width page) (third_width page) f

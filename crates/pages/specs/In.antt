@@ -2,9 +2,9 @@
 use Rattle.std.specs.Prelude.{List, [], ◌∷◌, ◌++◌, ℕ, eqb, length, take}
 use Rattle.choice.specs.Choice.{pick}
 use Rattle.wire.specs.Bytes.{bytes_of}
-use Rattle.model.specs.Protocol.{pagesOfIn, pagesOfOut, capabilitiesIn, attributesIn, seedIn, controlledIn, setAttributes, seedExchange, setKey, changeMaster}
+use Rattle.model.specs.Protocol.{pages_of_in, pages_of_out, capabilities_in, attributes_in, seed_in, controlled_in, set_attributes, seed_exchange, set_key, change_master}
 use Rattle.model.specs.Controlled.{controlled}
-use Rattle.units.specs.Unit.{method, policyTag, mask}
+use Rattle.units.specs.Unit.{method, policy_tag, mask}
 
 -- page codes, two bytes each
 abbrev pub codes : List ℕ → List ℕ
@@ -22,31 +22,31 @@ capabilities =
     0x00 ∷ 0x01 ∷ 0x00 ∷ 0x01 ∷ 0x00 ∷ 0x01 ∷ 0x00 ∷ 0x01 ∷ 0x00 ∷ 0x0E ∷ []
 
 -- 0000h lists the pages that IN has, 0001h those that OUT has
-unfoldable pub supportedIn : List ℕ
-supportedIn = framed pagesOfIn (codes (pagesOfIn ∷ pagesOfOut ∷ capabilitiesIn ∷ attributesIn ∷ seedIn ∷ controlledIn ∷ []))
+unfoldable pub supported_in : List ℕ
+supported_in = framed pages_of_in (codes (pages_of_in ∷ pages_of_out ∷ capabilities_in ∷ attributes_in ∷ seed_in ∷ controlled_in ∷ []))
 
-unfoldable pub supportedOut : List ℕ
-supportedOut = framed pagesOfOut (codes (setAttributes ∷ seedExchange ∷ setKey ∷ changeMaster ∷ []))
+unfoldable pub supported_out : List ℕ
+supported_out = framed pages_of_out (codes (set_attributes ∷ seed_exchange ∷ set_key ∷ change_master ∷ []))
 
 -- method, tag, mask; the mask is that of the unit's key set
-unfoldable pub attributesPage : List ℕ → List ℕ → List ℕ
-attributesPage rec keys = framed attributesIn (bytes_of 2 (method rec) ++ (bytes_of 4 (policyTag rec) ++ bytes_of 2 (mask keys)))
+unfoldable pub attributes_page : List ℕ → List ℕ → List ℕ
+attributes_page rec keys = framed attributes_in (bytes_of 2 (method rec) ++ (bytes_of 4 (policy_tag rec) ++ bytes_of 2 (mask keys)))
 
 -- the rows of controlled commands
-unfoldable pub controlledPage : List ℕ
-controlledPage = framed controlledIn controlled
+unfoldable pub controlled_page : List ℕ
+controlled_page = framed controlled_in controlled
 
 -- the page that a unit with that record and key set replies, empty where there is none
-unfoldable pub inPage : ℕ → List ℕ → List ℕ → List ℕ
-inPage page rec keys =
-    pick (eqb page pagesOfIn) supportedIn
-    (pick (eqb page pagesOfOut) supportedOut
-    (pick (eqb page capabilitiesIn) capabilities
-    (pick (eqb page attributesIn) (attributesPage rec keys)
-    (pick (eqb page controlledIn) controlledPage
+unfoldable pub in_page : ℕ → List ℕ → List ℕ → List ℕ
+in_page page rec keys =
+    pick (eqb page pages_of_in) supported_in
+    (pick (eqb page pages_of_out) supported_out
+    (pick (eqb page capabilities_in) capabilities
+    (pick (eqb page attributes_in) (attributes_page rec keys)
+    (pick (eqb page controlled_in) controlled_page
     []))))
 
 -- the reply to an allocation length: as many of the page's bytes as it asks for. The count is its length, the smaller of the two (InLaws:
--- `reply-length`)
-unfoldable pub replyOf : ℕ → ℕ → List ℕ → List ℕ → List ℕ
-replyOf page allocation rec keys = take allocation (inPage page rec keys)
+-- `reply_length`)
+unfoldable pub reply_of : ℕ → ℕ → List ℕ → List ℕ → List ℕ
+reply_of page allocation rec keys = take allocation (in_page page rec keys)

@@ -1,12 +1,12 @@
 // What a GOOD Out page makes of a unit's attributes and of a key set (document 01, "Pages", Effects). A record is written by units'
 // setters, and its check is made last.
 ghost use Rattle.std.specs.Prelude.{◌≡◌, ◌++◌, false, ◌<◌, length};
-ghost use Rattle.hmac.specs.Hmac.{hmac, bySha1};
+ghost use Rattle.hmac.specs.Hmac.{hmac, by_sha1};
 ghost use Rattle.model.specs.Totals.{total_of};
-ghost use Rattle.units.specs.Unit.{identifier, genKey};
-ghost use Rattle.pages.specs.Out.{newMethod, newTag, wrongList};
-ghost use Rattle.pages.specs.Effects.{attributesSet, withBit, workingKeySet, flipped, lastFlipped};
-ghost use Rattle.pages.specs.Effects.{nextGen, nextAuth, exchanged, changed, newKeys};
+ghost use Rattle.units.specs.Unit.{identifier, gen_key_of};
+ghost use Rattle.pages.specs.Out.{new_method, new_tag, wrong_list};
+ghost use Rattle.pages.specs.Effects.{attributes_set, with_bit, working_key_set, flipped, last_flipped};
+ghost use Rattle.pages.specs.Effects.{next_gen, next_auth, exchanged, changed, new_keys};
 
 use super::lists::front_of;
 use super::reader::run_of;
@@ -15,7 +15,7 @@ use model::KeyVersion;
 // Set Attributes: the unit's method and tag.
 pub fn set_attributes(own: &mut [u8], list: &[u8])
     requires { length own.old ≡ 512 }
-    ensures { own.new ≡ attributesSet (newMethod list.now) (newTag list.now) own.old }
+    ensures { own.new ≡ attributes_set (new_method list.now) (new_tag list.now) own.old }
 {
     let f = front_of(model::SET_ATTRIBUTES, list);
     units::set_method(own, f.first);
@@ -26,7 +26,7 @@ pub fn set_attributes(own: &mut [u8], list: &[u8])
 // The mask with the version's bit set.
 fn with_bit(mask: u32, version: KeyVersion) -> u32
     requires { version.0 < 16 }
-    ensures { result ≡ withBit version.0 mask }
+    ensures { result ≡ with_bit version.0 mask }
 {
     let v = version.0;
     let bit = 1u32 << v;
@@ -40,7 +40,7 @@ fn with_bit(mask: u32, version: KeyVersion) -> u32
 // The working key: HMAC under the generation master key over the seed.
 fn made_key(keys: &[u8], seed: &[u8]) -> [u8; 20]
     requires { length keys.now ≡ 512 }
-    ensures { result ≡ hmac bySha1 (genKey keys.now) seed.now }
+    ensures { result ≡ hmac by_sha1 (gen_key_of keys.now) seed.now }
 {
     let generation = units::gen_key_of(keys);
     hmac::hmac_of(&generation, seed)
@@ -49,7 +49,7 @@ fn made_key(keys: &[u8], seed: &[u8]) -> [u8; 20]
 // Set Key: the key of the version, and its mask bit.
 fn set_key(keys: &mut [u8], version: KeyVersion, seed: &[u8])
     requires { (length keys.old ≡ 512) × (version.0 < 16) }
-    ensures { keys.new ≡ workingKeySet version.0 seed.now keys.old }
+    ensures { keys.new ≡ working_key_set version.0 seed.now keys.old }
 {
     let key = made_key(&keys[..], seed);
     let mask = with_bit(units::mask_of(&keys[..]), version);
@@ -60,7 +60,7 @@ fn set_key(keys: &mut [u8], version: KeyVersion, seed: &[u8])
 
 // HMAC over two parts, taken in one after another.
 fn hmac_of_two(key: &[u8], first: &[u8], second: &[u8]) -> [u8; 20]
-    ensures { result ≡ hmac bySha1 key.now (first.now ++ second.now) }
+    ensures { result ≡ hmac by_sha1 key.now (first.now ++ second.now) }
 {
     hmac::finish(hmac::feed(hmac::feed(hmac::start(key), first), second))
 }
@@ -75,7 +75,7 @@ fn flip(x: u8) -> u8
 // The identifier of the unit that keeps the keys, with the lowest bit of its last byte inverted.
 fn flipped_identifier(keys: &[u8]) -> [u8; 16]
     requires { length keys.now ≡ 512 }
-    ensures { result ≡ lastFlipped (identifier keys.now) }
+    ensures { result ≡ last_flipped (identifier keys.now) }
 {
     let identifier = units::identifier_of(keys);
     let mut id = [0u8; 16];
@@ -94,7 +94,7 @@ struct Pair {
 // The next pair: HMACs under the generation master key over S, and over S with the lowest bit of its last byte inverted.
 fn next_pair(keys: &[u8], value: &[u8]) -> Pair
     requires { length keys.now ≡ 512 }
-    ensures { (result.auth ≡ nextAuth value.now keys.now) × (result.generation ≡ nextGen value.now keys.now) }
+    ensures { (result.auth ≡ next_auth value.now keys.now) × (result.generation ≡ next_gen value.now keys.now) }
 {
     let key = units::gen_key_of(keys);
     let flipped = flipped_identifier(keys);
@@ -132,8 +132,8 @@ fn change(keys: &mut [u8])
 
 // What the page makes of a key set, with a list that nothing is wrong with. A page that is none of the three leaves it alone.
 pub fn set_keys(keys: &mut [u8], page: u32, list: &[u8])
-    requires { (length keys.old ≡ 512) × (length list.now ≡ total_of page) × (wrongList page list.now ≡ false) }
-    ensures { keys.new ≡ newKeys page list.now keys.old }
+    requires { (length keys.old ≡ 512) × (length list.now ≡ total_of page) × (wrong_list page list.now ≡ false) }
+    ensures { keys.new ≡ new_keys page list.now keys.old }
 {
     let f = front_of(page, list);
     match page {

@@ -2,8 +2,8 @@
 ghost use Rattle.std.specs.Prelude.{◌≡◌, not, List, ℕ, ◌-◌, eqb, ltb};
 ghost use Rattle.choice.specs.Choice.{either};
 ghost use Rattle.model.specs.Totals.{total_of};
-ghost use Rattle.pages.specs.Front.{firstWidth, secondWidth, thirdWidth, FrontOf};
-ghost use Rattle.pages.specs.Out.{wrongFields, wrongList};
+ghost use Rattle.pages.specs.Front.{first_width, second_width, third_width, FrontOf};
+ghost use Rattle.pages.specs.Out.{wrong_fields, wrong_list};
 
 use super::reader::{Front, read_front};
 use model::KeyVersion;
@@ -18,7 +18,7 @@ struct Widths {
 }
 
 fn widths_of(page: u32) -> Widths
-    ensures { (result.first ≡ firstWidth page) × (result.second ≡ secondWidth page) × (result.third ≡ thirdWidth page) }
+    ensures { (result.first ≡ first_width page) × (result.second ≡ second_width page) × (result.third ≡ third_width page) }
 {
     match page {
         model::SET_ATTRIBUTES => Widths {
@@ -75,7 +75,7 @@ fn wrong_exchange(group: u32, zero: u32) -> bool
 
 // What stands behind page code and length; Change has nothing there, and any other page is wrong.
 fn wrong_fields(page: u32, f: Front) -> bool
-    ensures { (d : List ℕ) → FrontOf page d f → result ≡ wrongFields page d }
+    ensures { (d : List ℕ) → FrontOf page d f → result ≡ wrong_fields page d }
 {
     match page {
         model::SET_ATTRIBUTES => wrong_attributes(f.first, f.third),
@@ -95,7 +95,7 @@ fn page_length(page: u32) -> u32
 
 // 19: page code, page length, a field or a named zero wrong.
 pub fn wrong_list(page: u32, list: &[u8]) -> bool
-    ensures { result ≡ wrongList page list.now }
+    ensures { result ≡ wrong_list page list.now }
 {
     let f = front_of(page, list);
     let follows = page_length(page);

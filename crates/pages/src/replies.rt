@@ -1,7 +1,7 @@
 // The In pages, byte by byte, and the one cut of a reply.
 ghost use Rattle.std.specs.Prelude.{◌≡◌, ◌≤◌, ◌<◌, min, length, get_or, take};
 ghost use Rattle.wire.specs.Bytes.{patch};
-ghost use Rattle.pages.specs.In.{supportedIn, supportedOut, capabilities, attributesPage, controlledPage, inPage, replyOf};
+ghost use Rattle.pages.specs.In.{supported_in, supported_out, capabilities, attributes_page, controlled_page, in_page, reply_of};
 ghost use Rattle.pages.specs.InLaws.{size_of};
 
 // The pages that IN has, under 0000h.
@@ -24,13 +24,13 @@ const CAPABILITIES: [u8; 20] = [
 const CONTROLLED_HEAD: [u8; 4] = [0x00, 0x13, 0x00, 0xBA];
 
 fn supported_in_at(i: usize) -> u8
-    ensures { result ≡ get_or supportedIn i 0 }
+    ensures { result ≡ get_or supported_in i 0 }
 {
     if i < 16 { SUPPORTED_IN[i] } else { 0 }
 }
 
 fn supported_out_at(i: usize) -> u8
-    ensures { result ≡ get_or supportedOut i 0 }
+    ensures { result ≡ get_or supported_out i 0 }
 {
     if i < 12 { SUPPORTED_OUT[i] } else { 0 }
 }
@@ -42,7 +42,7 @@ fn capabilities_at(i: usize) -> u8
 }
 
 fn controlled_page_at(i: usize) -> u8
-    ensures { result ≡ get_or controlledPage i 0 }
+    ensures { result ≡ get_or controlled_page i 0 }
 {
     if i < 4 {
         CONTROLLED_HEAD[i]
@@ -53,7 +53,7 @@ fn controlled_page_at(i: usize) -> u8
 
 // 0011h, of the unit's record and that of its key set.
 fn attributes_at(own: &[u8], keys: &[u8], i: usize) -> u8
-    ensures { result ≡ get_or (attributesPage own.now keys.now) i 0 }
+    ensures { result ≡ get_or (attributes_page own.now keys.now) i 0 }
 {
     let method = units::method_of(own);
     let tag = units::tag_of(own);
@@ -77,7 +77,7 @@ fn attributes_at(own: &[u8], keys: &[u8], i: usize) -> u8
 
 // The byte at i of a page, 0 past its end.
 fn page_at(page: u32, own: &[u8], keys: &[u8], i: usize) -> u8
-    ensures { result ≡ get_or (inPage page own.now keys.now) i 0 }
+    ensures { result ≡ get_or (in_page page own.now keys.now) i 0 }
 {
     match page {
         model::PAGES_OF_IN => supported_in_at(i),
@@ -114,7 +114,7 @@ fn page_count(page: u32, allocation: u32) -> u32
 // Writes the first count bytes of a page into the reply.
 fn write_page(reply: &mut [u8], page: u32, own: &[u8], keys: &[u8], count: u32)
     requires { (length reply.old ≡ 512) × (count ≤ size_of page) }
-    ensures { reply.new ≡ patch reply.old 0 (take count (inPage page own.now keys.now)) }
+    ensures { reply.new ≡ patch reply.old 0 (take count (in_page page own.now keys.now)) }
 {
     let n = count as usize;
     let mut i = 0;
@@ -127,7 +127,7 @@ fn write_page(reply: &mut [u8], page: u32, own: &[u8], keys: &[u8], count: u32)
 // Writes what a unit with that record and key set replies, cut once, and says how many bytes that is.
 pub fn reply(reply: &mut [u8], page: u32, allocation: u32, own: &[u8], keys: &[u8]) -> u32
     requires { length reply.old ≡ 512 }
-    ensures { (result ≡ length (replyOf page allocation own.now keys.now)) × (reply.new ≡ patch reply.old 0 (replyOf page allocation own.now keys.now)) }
+    ensures { (result ≡ length (reply_of page allocation own.now keys.now)) × (reply.new ≡ patch reply.old 0 (reply_of page allocation own.now keys.now)) }
 {
     let count = page_count(page, allocation);
     write_page(reply, page, own, keys, count);

@@ -3,96 +3,96 @@
 use Rattle.std.specs.Prelude.{◌≡◌, refl, true, false, not, List, [], ◌∷◌, ℕ, zero, suc, ◌*◌, ◌≤◌, ◌<◌, min, eqb, length, take}
 use Rattle.std.proofs.Common.{sym, ap, ◌∙◌, subst, arith, take_at, ne_eqb, le-ltb}
 use Rattle.choice.specs.Choice.{either}
-use Rattle.hmac.specs.Hmac.{hmac, bySha1}
+use Rattle.hmac.specs.Hmac.{hmac, by_sha1}
 use Rattle.wire.specs.Bytes.{patch}
-use Rattle.wire.specs.PatchLaws.{patch-none, record-here}
-use Rattle.model.specs.Protocol.{setKey}
-use Rattle.model.specs.Rows.{rows, listed, byPage, need_of, isUnknown, isOpenRow}
-use Rattle.model.specs.RowLaws.{page-ignored, listed-by-need}
-use Rattle.model.specs.Codes.{dataOut, legalLen}
-use Rattle.model.specs.CodeLaws.{legal-some}
+use Rattle.wire.specs.PatchLaws.{patch_none, record_here}
+use Rattle.model.specs.Protocol.{set_key}
+use Rattle.model.specs.Rows.{rows, listed, by_page, need_of, is_unknown, is_open_row}
+use Rattle.model.specs.RowLaws.{page_ignored, listed_by_need}
+use Rattle.model.specs.Codes.{data_out, legal_len}
+use Rattle.model.specs.CodeLaws.{legal_some}
 use Rattle.model.specs.Refusal.{refusal}
-use Rattle.model.specs.Answers.{is_a, isGood, countIn}
+use Rattle.model.specs.Answers.{is_a, is_good, count_in}
 use Rattle.model.specs.declared.Need.TheVariants.{Open}
 use Rattle.model.specs.declared.Answer.{Answer}
 use Rattle.model.specs.declared.Answer.TheVariants.{Run}
 use Rattle.units.specs.declared.UnitState.TheVariants.{Used}
-use Rattle.units.specs.Unit.{unitState, unit_at, keeperOf, keySetOf, method, isValid, workingKey, genKey}
-use Rattle.units.specs.UnitLaws.{keeper-small, key-set-length}
-use Rattle.slots.specs.Slot.{slot_at, slotUnit, slotCommand, rightToken, freed}
-use Rattle.judge.specs.Command.{code_of, page_of, lengthField, is_bare, needFor}
+use Rattle.units.specs.Unit.{unit_state, unit_at, keeper_of, key_set_of, method, is_valid, working_key, gen_key_of}
+use Rattle.units.specs.UnitLaws.{keeper_small, key_set_length}
+use Rattle.slots.specs.Slot.{slot_at, slot_unit, slot_command, right_token, freed}
+use Rattle.judge.specs.Command.{code_of, page_of, length_field, is_bare, need_for}
 use Rattle.judge.specs.Seen.{Seen, seen}
-use Rattle.judge.specs.Judgement.{unitTests, codeTests, lengthTests, protocolTests, rulesFor, skipsGuard, guardTests, pageTests}
-use Rattle.judge.specs.Judgement.{earlierTests, laterTests, openTests, openReason}
-use Rattle.judge.specs.JudgementLaws.{unknown-code, unlisted-page, capkey-rules}
-use Rattle.judge.specs.CheckedLaws.{guarded-wrapped}
-use Rattle.pages.specs.In.{inPage, replyOf}
-use Rattle.pages.specs.InLaws.{page-size, reply-length}
-use Rattle.pages.specs.Out.{newVersion, seed}
-use Rattle.pages.specs.OutLaws.{right-version}
-use Rattle.pages.specs.Effects.{workingKeySet, newKeys}
-use Rattle.pages.specs.EffectLaws.{key-length, key-valid, key-working, key-differs}
-use Rattle.calls.specs.Outcome.{Lent, gives, withSlots, rightlyLent}
-use Rattle.calls.specs.OutcomeLaws.{lengths-are}
+use Rattle.judge.specs.Judgement.{unit_tests, code_tests, length_tests, protocol_tests, rules_for, skips_guard, guard_tests, page_tests}
+use Rattle.judge.specs.Judgement.{earlier_tests, later_tests, open_tests, open_reason}
+use Rattle.judge.specs.JudgementLaws.{unknown_code, unlisted_page, capkey_rules}
+use Rattle.judge.specs.CheckedLaws.{guarded_wrapped}
+use Rattle.pages.specs.In.{in_page, reply_of}
+use Rattle.pages.specs.InLaws.{page_size, reply_length}
+use Rattle.pages.specs.Out.{new_version, seed}
+use Rattle.pages.specs.OutLaws.{right_version}
+use Rattle.pages.specs.Effects.{working_key_set, new_keys}
+use Rattle.pages.specs.EffectLaws.{key_length, key_valid, key_working, key_differs}
+use Rattle.calls.specs.Outcome.{Lent, gives, with_slots, rightly_lent}
+use Rattle.calls.specs.OutcomeLaws.{lengths_are}
 use Rattle.calls.specs.Slots.{holds}
-use Rattle.calls.specs.Whole.{Asked, isReplied, replyTo, madeBy, passed, judged, laid, Whole, wholeReason}
-use Rattle.calls.specs.WholeLaws.{not-replied, held-code, close-early, close-none}
-use Rattle.calls.specs.Open.{reasonAtOpen, judgedOut, openOut}
-use Rattle.calls.specs.OpenLaws.{open-judged, judged-refuses}
-use Rattle.calls.specs.Close.{heldBy, closeOut}
-use Rattle.calls.specs.CloseLaws.{holds-open, whole-refused, close-held}
-use Rattle.runs.specs.WholeLaws.{whole-cases, Obeys, obeys, laid-keeper}
-use Rattle.runs.specs.FinalLaws.{open-final, close-final, good-open, good-close, answered-code}
+use Rattle.calls.specs.Whole.{Asked, is_replied, reply_to, made_by, passed, judged, laid, Whole, whole_reason}
+use Rattle.calls.specs.WholeLaws.{not_replied, held_code, close_early, close_none}
+use Rattle.calls.specs.Open.{reason_at_open, judged_out, open_out}
+use Rattle.calls.specs.OpenLaws.{open_judged, judged_refuses}
+use Rattle.calls.specs.Close.{held_by, close_out}
+use Rattle.calls.specs.CloseLaws.{holds_open, whole_refused, close_held}
+use Rattle.runs.specs.WholeLaws.{whole_cases, Obeys, obeys, laid_keeper}
+use Rattle.runs.specs.FinalLaws.{open_final, close_final, good_open, good_close, answered_code}
 
 -- ---- refusing always: an open INQUIRY gets A2 on every used, sound unit, and every byte is kept
 
-inquiry-need : (page : ℕ) → need_of 0x12 page ≡ Open
+inquiry_need : (page : ℕ) → need_of 0x12 page ≡ Open
 unfolding need_of rows
-inquiry-need page = page-ignored 0x12 page 0 refl
+inquiry_need page = page_ignored 0x12 page 0 refl
 
-inquiry-none : (s : Seen) (c token : List ℕ) (clock : ℕ) → s.unit ≤ 7 → s.state ≡ Used → code_of c ≡ 0x12 → legalLen 0x12 (length c) ≡ true
-    → openReason s c token clock ≡ 0
-unfolding openReason openTests earlierTests laterTests unitTests codeTests lengthTests protocolTests guardTests skipsGuard pageTests
-    needFor listed rows
-inquiry-none s c token clock h e q k =
-    let some = legal-some 0x12 (length c) k in
-    rw (le-ltb 7 s.unit h, e, q, ne_eqb (length c) 0 (λ z. omega arith), k, inquiry-need (page_of c))
+inquiry_none : (s : Seen) (c token : List ℕ) (clock : ℕ) → s.unit ≤ 7 → s.state ≡ Used → code_of c ≡ 0x12 → legal_len 0x12 (length c) ≡ true
+    → open_reason s c token clock ≡ 0
+unfolding open_reason open_tests earlier_tests later_tests unit_tests code_tests length_tests protocol_tests guard_tests skips_guard page_tests
+    need_for listed rows
+inquiry_none s c token clock h e q k =
+    let some = legal_some 0x12 (length c) k in
+    rw (le-ltb 7 s.unit h, e, q, ne_eqb (length c) 0 (λ z. omega arith), k, inquiry_need (page_of c))
 
-module _ (l : Lent) (k : Asked) (clock : ℕ) (right : rightlyLent l ≡ true) (sized : rightToken (length k.token) ≡ true)
-    (small : k.unit ≤ 7) (used : unitState l.tabled.units k.unit ≡ Used) where
-  pub inquiry-runs : code_of k.command ≡ 0x12 → legalLen 0x12 (length k.command) ≡ true → openOut l k clock ≡ gives Run l
-  unfolding openOut judgedOut judged passed isReplied dataOut
-  inquiry-runs e q =
-      rw (right, sized, inquiry-none (seen l.tabled.units k.unit) k.command k.token clock small used e q, e) (rw patch-none)
+module _ (l : Lent) (k : Asked) (clock : ℕ) (right : rightly_lent l ≡ true) (sized : right_token (length k.token) ≡ true)
+    (small : k.unit ≤ 7) (used : unit_state l.tabled.units k.unit ≡ Used) where
+  pub inquiry_runs : code_of k.command ≡ 0x12 → legal_len 0x12 (length k.command) ≡ true → open_out l k clock ≡ gives Run l
+  unfolding open_out judged_out judged passed is_replied data_out
+  inquiry_runs e q =
+      rw (right, sized, inquiry_none (seen l.tabled.units k.unit) k.command k.token clock small used e q, e) (rw patch_none)
 
   -- ---- GOOD always: what no row has is answered A3, and every byte is kept
 
-  refused : (r : ℕ) → reasonAtOpen l.tabled.units k clock ≡ r → (r ≡ 0 → ⊥) → openOut l k clock ≡ gives (refusal r) l
+  refused : (r : ℕ) → reason_at_open l.tabled.units k clock ≡ r → (r ≡ 0 → ⊥) → open_out l k clock ≡ gives (refusal r) l
   refused r e n =
-      sym (open-judged l k clock true (sym right) refl true (sym sized) refl _ (judged-refuses l k clock r (sym e) n (refusal r) refl))
+      sym (open_judged l k clock true (sym right) refl true (sym sized) refl _ (judged_refuses l k clock r (sym e) n (refusal r) refl))
 
   -- with reason 2 where the command is empty or its code is unknown
-  pub unknown-answer : either (eqb (length k.command) 0) (not (listed (code_of k.command))) ≡ true
-      → openOut l k clock ≡ gives (refusal 2) l
-  unknown-answer e =
-      refused 2 (unknown-code (seen l.tabled.units k.unit) k.command k.token clock small used e) (λ z. omega arith)
+  pub unknown_answer : either (eqb (length k.command) 0) (not (listed (code_of k.command))) ≡ true
+      → open_out l k clock ≡ gives (refusal 2) l
+  unknown_answer e =
+      refused 2 (unknown_code (seen l.tabled.units k.unit) k.command k.token clock small used e) (λ z. omega arith)
 
   -- with reason 4 where its code goes by page, its length is legal and its page is unlisted
-  pub unlisted-page-answer : byPage (code_of k.command) ≡ true → legalLen (code_of k.command) (length k.command) ≡ true
-      → isUnknown (needFor k.command) ≡ true → openOut l k clock ≡ gives (refusal 4) l
-  unlisted-page-answer b q n =
+  pub unlisted_page_answer : by_page (code_of k.command) ≡ true → legal_len (code_of k.command) (length k.command) ≡ true
+      → is_unknown (need_for k.command) ≡ true → open_out l k clock ≡ gives (refusal 4) l
+  unlisted_page_answer b q n =
       let c = k.command in
-      let some = legal-some (code_of c) (length c) q in
-      let known : true ≡ listed (code_of c) = rw b at (listed-by-need (code_of c) (page_of c)) in
+      let some = legal_some (code_of c) (length c) q in
+      let known : true ≡ listed (code_of c) = rw b at (listed_by_need (code_of c) (page_of c)) in
       let code : either (eqb (length c) 0) (not (listed (code_of c))) ≡ false = rw (ne_eqb (length c) 0 (λ z. omega arith), ← known) in
-      refused 4 (unlisted-page (seen l.tabled.units k.unit) c k.token clock small used code q b n) (λ z. omega arith)
+      refused 4 (unlisted_page (seen l.tabled.units k.unit) c k.token clock small used code q b n) (λ z. omega arith)
 
 -- ---- an invented reply count: A0 to an open says the smaller of page size and allocation length, and that many bytes of the page stand at
 -- the reply's front
 
 pub record Counted (s : Seen) (c reply : List ℕ) (n : ℕ) : Type 0 where
-  pub count : n ≡ min (lengthField c) (length (inPage (page_of c) s.own s.keys))
-  pub front : take n reply ≡ take n (inPage (page_of c) s.own s.keys)
+  pub count : n ≡ min (length_field c) (length (in_page (page_of c) s.own s.keys))
+  pub front : take n reply ≡ take n (in_page (page_of c) s.own s.keys)
   pub as_many : length (take n reply) ≡ n
 
 -- as many as were taken
@@ -101,150 +101,150 @@ cut zero xs = refl
 cut (suc n) [] = refl
 cut (suc n) (x ∷ xs) = ap (λ (ys : List ℕ). x ∷ ys) (cut n xs)
 
-reply-cut : (page n : ℕ) (own keys : List ℕ) → take (length (replyOf page n own keys)) (inPage page own keys) ≡ replyOf page n own keys
-unfolding replyOf
-reply-cut page n own keys = cut n (inPage page own keys)
+reply_cut : (page n : ℕ) (own keys : List ℕ) → take (length (reply_of page n own keys)) (in_page page own keys) ≡ reply_of page n own keys
+unfolding reply_of
+reply_cut page n own keys = cut n (in_page page own keys)
 
-reply-front : (s : Seen) (c reply : List ℕ) → Counted s c (patch reply 0 (replyTo s c)) (length (replyTo s c))
+reply_front : (s : Seen) (c reply : List ℕ) → Counted s c (patch reply 0 (reply_to s c)) (length (reply_to s c))
 unfolding patch
-reply-front s c reply =
-    let front = take_at (replyTo s c) _ (length (replyTo s c)) refl in
+reply_front s c reply =
+    let front = take_at (reply_to s c) _ (length (reply_to s c)) refl in
     record {
       count =
-          reply-length (page_of c) (lengthField c) s.own s.keys ∙ ap (min (lengthField c)) (sym (page-size (page_of c) s.own s.keys));
-      front = front ∙ sym (reply-cut (page_of c) (lengthField c) s.own s.keys);
+          reply_length (page_of c) (length_field c) s.own s.keys ∙ ap (min (length_field c)) (sym (page_size (page_of c) s.own s.keys));
+      front = front ∙ sym (reply_cut (page_of c) (length_field c) s.own s.keys);
       as_many = ap length front;
     }
 
-pub reply-counted : (l : Lent) (k : Asked) (clock : ℕ) (a : Answer) (m : Lent) → gives a m ≡ openOut l k clock → is_a 0 a ≡ true
-    → Counted (seen l.tabled.units k.unit) k.command m.reply (countIn a)
+pub reply_counted : (l : Lent) (k : Asked) (clock : ℕ) (a : Answer) (m : Lent) → gives a m ≡ open_out l k clock → is_a 0 a ≡ true
+    → Counted (seen l.tabled.units k.unit) k.command m.reply (count_in a)
 unfolding refusal
-reply-counted l k clock a m e good =
+reply_counted l k clock a m e good =
     let units = l.tabled.units in
     let s = seen units k.unit in
-    let o = open-final a m (rw good) l k clock e in
-    let w = o.whole-answered in
+    let o = open_final a m (rw good) l k clock e in
+    let w = o.whole_answered in
     rw (w.answer, w.left)
-    (whole-cases units k [] clock
-    (λ (x : Whole). is_a 0 x.answer ≡ true → Counted s k.command (patch l.reply 0 x.written) (countIn x.answer))
+    (whole_cases units k [] clock
+    (λ (x : Whole). is_a 0 x.answer ≡ true → Counted s k.command (patch l.reply 0 x.written) (count_in x.answer))
     (λ n q. let o : ◌≡◌ {A = ℕ} 0 1 = cc in absurd (omega arith))
-    (λ z t q. absurd (answered-code units k clock o.unparked z t))
-    (λ z f r q. reply-front s k.command l.reply)
+    (λ z t q. absurd (answered_code units k clock o.unparked z t))
+    (λ z f r q. reply_front s k.command l.reply)
     (λ z f r q. let o : ◌≡◌ {A = ℕ} 0 1 = cc in absurd (omega arith))
     (rw w.answer at good))
 
 -- ---- judging at open and waving the close through: a close refuses for whatever an open of the same command would at the close's clock
 
-pub close-judges : (l : Lent) (s : ℕ) (d : List ℕ) (clock : ℕ) → rightlyLent l ≡ true → holds l.tabled.slots s ≡ true
-    → (reasonAtOpen l.tabled.units (heldBy (slot_at s l.tabled.slots)) clock ≡ 0 → ⊥)
-    → closeOut l s d clock
-    ≡ gives (refusal (reasonAtOpen l.tabled.units (heldBy (slot_at s l.tabled.slots)) clock))
-    (withSlots (freed s l.tabled.slots) l)
-close-judges l s d clock right held n =
+pub close_judges : (l : Lent) (s : ℕ) (d : List ℕ) (clock : ℕ) → rightly_lent l ≡ true → holds l.tabled.slots s ≡ true
+    → (reason_at_open l.tabled.units (held_by (slot_at s l.tabled.slots)) clock ≡ 0 → ⊥)
+    → close_out l s d clock
+    ≡ gives (refusal (reason_at_open l.tabled.units (held_by (slot_at s l.tabled.slots)) clock))
+    (with_slots (freed s l.tabled.slots) l)
+close_judges l s d clock right held n =
     let units = l.tabled.units in
-    let k = heldBy (slot_at s l.tabled.slots) in
-    let r = reasonAtOpen units k clock in
-    let early = close-early (seen units k.unit) k.command k.token d clock r refl n in
-    let whole_is = whole-refused units k d clock r early n (refusal r) refl in
-    sym (close-held l s d clock true (sym right) refl true (sym held) refl (refusal r) units whole_is)
+    let k = held_by (slot_at s l.tabled.slots) in
+    let r = reason_at_open units k clock in
+    let early = close_early (seen units k.unit) k.command k.token d clock r refl n in
+    let whole_is = whole_refused units k d clock r early n (refusal r) refl in
+    sym (close_held l s d clock true (sym right) refl true (sym held) refl (refusal r) units whole_is)
 
 -- and for whatever reason the whole command has then, 18 and 19 too
-pub close-refuses : (l : Lent) (s : ℕ) (d : List ℕ) (clock : ℕ) → rightlyLent l ≡ true → holds l.tabled.slots s ≡ true
-    → (wholeReason l.tabled.units (heldBy (slot_at s l.tabled.slots)) d clock ≡ 0 → ⊥)
-    → closeOut l s d clock
-    ≡ gives (refusal (wholeReason l.tabled.units (heldBy (slot_at s l.tabled.slots)) d clock))
-    (withSlots (freed s l.tabled.slots) l)
-close-refuses l s d clock right held n =
+pub close_refuses : (l : Lent) (s : ℕ) (d : List ℕ) (clock : ℕ) → rightly_lent l ≡ true → holds l.tabled.slots s ≡ true
+    → (whole_reason l.tabled.units (held_by (slot_at s l.tabled.slots)) d clock ≡ 0 → ⊥)
+    → close_out l s d clock
+    ≡ gives (refusal (whole_reason l.tabled.units (held_by (slot_at s l.tabled.slots)) d clock))
+    (with_slots (freed s l.tabled.slots) l)
+close_refuses l s d clock right held n =
     let units = l.tabled.units in
-    let k = heldBy (slot_at s l.tabled.slots) in
-    let r = wholeReason units k d clock in
-    let whole_is = whole-refused units k d clock r refl n (refusal r) refl in
-    sym (close-held l s d clock true (sym right) refl true (sym held) refl (refusal r) units whole_is)
+    let k = held_by (slot_at s l.tabled.slots) in
+    let r = whole_reason units k d clock in
+    let whole_is = whole_refused units k d clock r refl n (refusal r) refl in
+    sym (close_held l s d clock true (sym right) refl true (sym held) refl (refusal r) units whole_is)
 
 -- ---- where CAPKEY rules, no command but an open row is GOOD without a capability
 
-pub capkey-open : (l : Lent) (k : Asked) (clock : ℕ) (a : Answer) (m : Lent) → gives a m ≡ openOut l k clock → isGood a ≡ true
-    → rulesFor (unit_at k.unit l.tabled.units) k.command ≡ true → isOpenRow (needFor k.command) ≡ false
+pub capkey_open : (l : Lent) (k : Asked) (clock : ℕ) (a : Answer) (m : Lent) → gives a m ≡ open_out l k clock → is_good a ≡ true
+    → rules_for (unit_at k.unit l.tabled.units) k.command ≡ true → is_open_row (need_for k.command) ≡ false
     → is_bare k.command ≡ false
-capkey-open l k clock a m e good rules guarded =
-    guarded-wrapped (seen l.tabled.units k.unit) k.command k.token clock (good-open a m good l k clock e) rules guarded
+capkey_open l k clock a m e good rules guarded =
+    guarded_wrapped (seen l.tabled.units k.unit) k.command k.token clock (good_open a m good l k clock e) rules guarded
 
-pub capkey-close : (l : Lent) (s : ℕ) (d : List ℕ) (clock : ℕ) (a : Answer) (m : Lent) → gives a m ≡ closeOut l s d clock
-    → isGood a ≡ true
-    → (let k : Asked = heldBy (slot_at s l.tabled.slots) in
-    rulesFor (unit_at k.unit l.tabled.units) k.command ≡ true → isOpenRow (needFor k.command) ≡ false
+pub capkey_close : (l : Lent) (s : ℕ) (d : List ℕ) (clock : ℕ) (a : Answer) (m : Lent) → gives a m ≡ close_out l s d clock
+    → is_good a ≡ true
+    → (let k : Asked = held_by (slot_at s l.tabled.slots) in
+    rules_for (unit_at k.unit l.tabled.units) k.command ≡ true → is_open_row (need_for k.command) ≡ false
     → is_bare k.command ≡ false)
-capkey-close l s d clock a m e good rules guarded =
-    let k = heldBy (slot_at s l.tabled.slots) in
+capkey_close l s d clock a m e good rules guarded =
+    let k = held_by (slot_at s l.tabled.slots) in
     let x = seen l.tabled.units k.unit in
-    let none = (close-none x k.command k.token d clock (good-close a m good l s d clock e)).0 in
-    guarded-wrapped x k.command k.token clock none rules guarded
+    let none = (close_none x k.command k.token d clock (good_close a m good l s d clock e)).0 in
+    guarded_wrapped x k.command k.token clock none rules guarded
 
 -- so on a CAPKEY unit
-pub capkey-unit-open : (l : Lent) (k : Asked) (clock : ℕ) (a : Answer) (m : Lent) → gives a m ≡ openOut l k clock → isGood a ≡ true
-    → method (unit_at k.unit l.tabled.units) ≡ 1 → isOpenRow (needFor k.command) ≡ false → is_bare k.command ≡ false
-capkey-unit-open l k clock a m e good q =
-    capkey-open l k clock a m e good (capkey-rules (unit_at k.unit l.tabled.units) k.command q)
+pub capkey_unit_open : (l : Lent) (k : Asked) (clock : ℕ) (a : Answer) (m : Lent) → gives a m ≡ open_out l k clock → is_good a ≡ true
+    → method (unit_at k.unit l.tabled.units) ≡ 1 → is_open_row (need_for k.command) ≡ false → is_bare k.command ≡ false
+capkey_unit_open l k clock a m e good q =
+    capkey_open l k clock a m e good (capkey_rules (unit_at k.unit l.tabled.units) k.command q)
 
-pub capkey-unit-close : (l : Lent) (s : ℕ) (d : List ℕ) (clock : ℕ) (a : Answer) (m : Lent) → gives a m ≡ closeOut l s d clock
-    → isGood a ≡ true
-    → (let k : Asked = heldBy (slot_at s l.tabled.slots) in
-    method (unit_at k.unit l.tabled.units) ≡ 1 → isOpenRow (needFor k.command) ≡ false → is_bare k.command ≡ false)
-capkey-unit-close l s d clock a m e good q =
-    let k = heldBy (slot_at s l.tabled.slots) in
-    capkey-close l s d clock a m e good (capkey-rules (unit_at k.unit l.tabled.units) k.command q)
+pub capkey_unit_close : (l : Lent) (s : ℕ) (d : List ℕ) (clock : ℕ) (a : Answer) (m : Lent) → gives a m ≡ close_out l s d clock
+    → is_good a ≡ true
+    → (let k : Asked = held_by (slot_at s l.tabled.slots) in
+    method (unit_at k.unit l.tabled.units) ≡ 1 → is_open_row (need_for k.command) ≡ false → is_bare k.command ≡ false)
+capkey_unit_close l s d clock a m e good q =
+    let k = held_by (slot_at s l.tabled.slots) in
+    capkey_close l s d clock a m e good (capkey_rules (unit_at k.unit l.tabled.units) k.command q)
 
 -- ---- doing nothing: after a GOOD Set Key, in the unit's key set, the version's key is valid and is the HMAC of the seed under the old
 -- generation key; where its bit was clear, the record differs
 
 pub record KeyMade (before after d : List ℕ) : Type 0 where
-  pub valid : isValid (newVersion d) after ≡ true
-  pub key : workingKey (newVersion d) after ≡ hmac bySha1 (genKey before) (seed d)
-  pub differs : isValid (newVersion d) before ≡ false → after ≡ before → ⊥
+  pub valid : is_valid (new_version d) after ≡ true
+  pub key : working_key (new_version d) after ≡ hmac by_sha1 (gen_key_of before) (seed d)
+  pub differs : is_valid (new_version d) before ≡ false → after ≡ before → ⊥
 
-key-laid : (units : List ℕ) (u page : ℕ) (d : List ℕ) → page ≡ setKey
-    → laid units u (madeBy (seen units u) page d)
-    ≡ patch units (keeperOf units u * 512) (workingKeySet (newVersion d) (seed d) (keySetOf units u))
-unfolding madeBy newKeys
-key-laid units u page d e = rw e
+key_laid : (units : List ℕ) (u page : ℕ) (d : List ℕ) → page ≡ set_key
+    → laid units u (made_by (seen units u) page d)
+    ≡ patch units (keeper_of units u * 512) (working_key_set (new_version d) (seed d) (key_set_of units u))
+unfolding made_by new_keys
+key_laid units u page d e = rw e
 
-key-made : (units : List ℕ) (u page : ℕ) (d : List ℕ) → Obeys units u page d → page ≡ setKey
-    → KeyMade (keySetOf units u) (keySetOf (laid units u (madeBy (seen units u) page d)) u) d
-unfolding keySetOf
-key-made units u page d o e =
-    let hv = right-version page d e o.right in
+key_made : (units : List ℕ) (u page : ℕ) (d : List ℕ) → Obeys units u page d → page ≡ set_key
+    → KeyMade (key_set_of units u) (key_set_of (laid units u (made_by (seen units u) page d)) u) d
+unfolding key_set_of
+key_made units u page d o e =
+    let hv = right_version page d e o.right in
     let units-full = o.full in
-    let small = keeper-small units u o.used o.small in
-    let full = key-set-length units u o.used o.full o.small in
-    let new = workingKeySet (newVersion d) (seed d) (keySetOf units u) in
+    let small = keeper_small units u o.used o.small in
+    let full = key_set_length units u o.used o.full o.small in
+    let new = working_key_set (new_version d) (seed d) (key_set_of units u) in
     -- the record laid at the keeper's place is the key set
-    let here : keySetOf (laid units u (madeBy (seen units u) page d)) u ≡ new =
-    ap (λ (p : ℕ). unit_at p (laid units u (madeBy (seen units u) page d))) (laid-keeper units u page d o u)
-    ∙ ap (unit_at (keeperOf units u)) (key-laid units u page d e)
-    ∙ record-here units (keeperOf units u) new (key-length (newVersion d) (seed d) (keySetOf units u) hv full) (omega arith) in
-    subst (λ (rec : List ℕ). KeyMade (keySetOf units u) rec d) (sym here)
+    let here : key_set_of (laid units u (made_by (seen units u) page d)) u ≡ new =
+    ap (λ (p : ℕ). unit_at p (laid units u (made_by (seen units u) page d))) (laid_keeper units u page d o u)
+    ∙ ap (unit_at (keeper_of units u)) (key_laid units u page d e)
+    ∙ record_here units (keeper_of units u) new (key_length (new_version d) (seed d) (key_set_of units u) hv full) (omega arith) in
+    subst (λ (rec : List ℕ). KeyMade (key_set_of units u) rec d) (sym here)
     (record {
-      valid = key-valid (newVersion d) (seed d) (keySetOf units u) hv full;
-      key = key-working (newVersion d) (seed d) (keySetOf units u) hv full;
-      differs = key-differs (newVersion d) (seed d) (keySetOf units u) hv full;
+      valid = key_valid (new_version d) (seed d) (key_set_of units u) hv full;
+      key = key_working (new_version d) (seed d) (key_set_of units u) hv full;
+      differs = key_differs (new_version d) (seed d) (key_set_of units u) hv full;
     })
 
-pub set-key-made : (l : Lent) (s : ℕ) (d : List ℕ) (clock : ℕ) (a : Answer) (m : Lent) → gives a m ≡ closeOut l s d clock → is_a 0 a ≡ true
-    → page_of (slotCommand (slot_at s l.tabled.slots)) ≡ setKey
-    → (let u : ℕ = slotUnit (slot_at s l.tabled.slots) in KeyMade (keySetOf l.tabled.units u) (keySetOf m.tabled.units u) d)
+pub set_key_made : (l : Lent) (s : ℕ) (d : List ℕ) (clock : ℕ) (a : Answer) (m : Lent) → gives a m ≡ close_out l s d clock → is_a 0 a ≡ true
+    → page_of (slot_command (slot_at s l.tabled.slots)) ≡ set_key
+    → (let u : ℕ = slot_unit (slot_at s l.tabled.slots) in KeyMade (key_set_of l.tabled.units u) (key_set_of m.tabled.units u) d)
 unfolding refusal
-set-key-made l s d clock a m e good page =
+set_key_made l s d clock a m e good page =
     let units = l.tabled.units in
     let rec = slot_at s l.tabled.slots in
-    let k = heldBy rec in
-    let o = close-final a m (rw good) l s d clock e in
-    let w = o.whole-answered in
+    let k = held_by rec in
+    let o = close_final a m (rw good) l s d clock e in
+    let w = o.whole_answered in
     rw w.left
-    (whole-cases units k d clock
-    (λ (x : Whole). is_a 0 x.answer ≡ true → KeyMade (keySetOf units k.unit) (keySetOf x.units k.unit) d)
+    (whole_cases units k d clock
+    (λ (x : Whole). is_a 0 x.answer ≡ true → KeyMade (key_set_of units k.unit) (key_set_of x.units k.unit) d)
     (λ n q. let o : ◌≡◌ {A = ℕ} 0 1 = cc in absurd (omega arith))
-    (λ z t q. key-made units k.unit (page_of k.command) d (obeys units k d clock (lengths-are _ _ _ o.right).0 z t) page)
-    (λ z f r q. let n = not-replied k.command (held-code rec (holds-open l.tabled.slots s o.held).1) in
+    (λ z t q. key_made units k.unit (page_of k.command) d (obeys units k d clock (lengths_are _ _ _ o.right).0 z t) page)
+    (λ z f r q. let n = not_replied k.command (held_code rec (holds_open l.tabled.slots s o.held).1) in
     let o : ◌≡◌ {A = ℕ} 0 1 = cc in absurd (omega arith))
     (λ z f r q. let o : ◌≡◌ {A = ℕ} 0 1 = cc in absurd (omega arith))
     (rw w.answer at good))

@@ -8,301 +8,301 @@ use Rattle.std.proofs.Math.Option.{Option, none, some}
 use mathlib.Core.List.{List, [], ◌∷◌}
 use Rattle.std.proofs.lemmas.Bool.{eqb-false}
 use Rattle.choice.specs.Choice.{pick}
-use Rattle.choice.specs.ChoiceLaws.{both_true, pick-cases}
+use Rattle.choice.specs.ChoiceLaws.{both_true, pick_cases}
 use Rattle.wire.specs.Bytes.{patch}
-use Rattle.seal.specs.Seal.{blankRecord}
-use Rattle.model.specs.Codes.{dataOut, legalLen}
-use Rattle.model.specs.CodeLaws.{legal-small}
-use Rattle.model.specs.Answers.{is_a, isFinal, countIn}
-use Rattle.model.specs.AnswerLaws.{final-not-parked}
+use Rattle.seal.specs.Seal.{blank_record}
+use Rattle.model.specs.Codes.{data_out, legal_len}
+use Rattle.model.specs.CodeLaws.{legal_small}
+use Rattle.model.specs.Answers.{is_a, is_final, count_in}
+use Rattle.model.specs.AnswerLaws.{final_not_parked}
 use Rattle.model.specs.declared.SlotNo.{SlotNo}
 use Rattle.model.specs.declared.Answer.{Answer}
 use Rattle.model.specs.declared.Answer.TheVariants.{Good, Parked, Full, H1, H2, H3}
-use Rattle.slots.specs.Slot.{slot_at, slotStateOf, slotToken, rightToken, tokenLength, openRecord, lowestFree, parked, freed, allFreed}
-use Rattle.slots.specs.SlotLaws.{record-free, open-sound, token-is}
+use Rattle.slots.specs.Slot.{slot_at, slot_state_of, slot_token, right_token, token_length, open_record, lowest_free, parked, freed, all_freed}
+use Rattle.slots.specs.SlotLaws.{record_free, open_sound, token_is}
 use Rattle.slots.specs.SearchLaws.{lowest}
-use Rattle.slots.specs.RoundLaws.{open-unit, open-command, open-token, parked-open, parked-length, parked-here, parked-other}
-use Rattle.slots.specs.TableLaws.{freed-length, freed-here, freed-other, all-freed-length, all-freed}
+use Rattle.slots.specs.RoundLaws.{open_unit, open_command, open_token, parked_open, parked_length, parked_here, parked_other}
+use Rattle.slots.specs.TableLaws.{freed_length, freed_here, freed_other, all_freed_length, all_freed_lem}
 use Rattle.slots.specs.declared.Found.{Found}
 use Rattle.slots.specs.declared.Found.TheVariants.{At, Nothing}
 use Rattle.slots.specs.declared.SlotState.TheVariants.{Open}
 use Rattle.judge.specs.Command.{code_of}
 use Rattle.judge.specs.Seen.{seen}
-use Rattle.judge.specs.JudgementLaws.{open-passed}
-use Rattle.calls.specs.Outcome.{leaves, Tables, tables, Lent, lent, Outcome, gives, onSlots, rightlyLent}
-use Rattle.calls.specs.OutcomeLaws.{one_table, one-outcome}
-use Rattle.calls.specs.Slots.{holds, abortOut, resetOut}
+use Rattle.judge.specs.JudgementLaws.{open_passed}
+use Rattle.calls.specs.Outcome.{leaves, Tables, tables, Lent, lent, Outcome, gives, on_slots, rightly_lent}
+use Rattle.calls.specs.OutcomeLaws.{one_table, one_outcome}
+use Rattle.calls.specs.Slots.{holds, abort_out, reset_out}
 use Rattle.calls.specs.Whole.{Asked, asked, Whole, whole}
-use Rattle.calls.specs.Open.{reasonAtOpen, parks, parkedIn, answered, judgedOut, openOut}
-use Rattle.calls.specs.Close.{heldBy, closeOut}
-use Rattle.calls.specs.CloseLaws.{holds-open}
-use Rattle.runs.specs.WholeLaws.{open-whole, whole-final, whole-written, whole_length}
+use Rattle.calls.specs.Open.{reason_at_open, parks, parked_in, answered, judged_out, open_out}
+use Rattle.calls.specs.Close.{held_by, close_out}
+use Rattle.calls.specs.CloseLaws.{holds_open}
+use Rattle.runs.specs.WholeLaws.{open_whole, whole_final, whole_written, whole_length}
 use Rattle.runs.specs.Run.{Call, opens, closes, aborts, resets, Meets}
-use Rattle.runs.specs.Ledger.{Ledger, put, after, vacant, held, view, toView, Agrees, done, doneIn, Singly, finalIn, KeepsReply, Fits}
+use Rattle.runs.specs.Ledger.{Ledger, put, after, vacant, held, view, to_view, Agrees, done, done_in, Singly, final_in, KeepsReply, Fits}
 
 -- ---- an open goes one of four ways, and a close one of three
 
 module _ (l : Lent) (k : Asked) (clock : ℕ) (Q : Outcome → Type 0) where
   pub open_by :
-      (rightlyLent l ≡ false → Q (gives H1 l))
-      → (rightlyLent l ≡ true → rightToken (length k.token) ≡ false → Q (gives H2 l))
-      → (rightlyLent l ≡ true → rightToken (length k.token) ≡ true → parks l.tabled.units k clock ≡ true
-      → Q (onSlots l (parkedIn l.tabled.slots k (lowestFree l.tabled.slots))))
-      → (rightlyLent l ≡ true → rightToken (length k.token) ≡ true → parks l.tabled.units k clock ≡ false
+      (rightly_lent l ≡ false → Q (gives H1 l))
+      → (rightly_lent l ≡ true → right_token (length k.token) ≡ false → Q (gives H2 l))
+      → (rightly_lent l ≡ true → right_token (length k.token) ≡ true → parks l.tabled.units k clock ≡ true
+      → Q (on_slots l (parked_in l.tabled.slots k (lowest_free l.tabled.slots))))
+      → (rightly_lent l ≡ true → right_token (length k.token) ≡ true → parks l.tabled.units k clock ≡ false
       → Q (answered l (whole l.tabled.units k [] clock)))
-      → Q (openOut l k clock)
-  unfolding openOut judgedOut
+      → Q (open_out l k clock)
+  unfolding open_out judged_out
   open_by h1 h2 parked' answered' =
-      pick-cases Q (rightlyLent l) _ _
-      (λ a. pick-cases Q (rightToken (length k.token)) _ _
-      (λ b. pick-cases Q (parks l.tabled.units k clock) _ _ (parked' a b)
-      (λ p. subst (λ (w : Whole). Q (answered l w)) (sym (open-whole l.tabled.units k [] clock p)) (answered' a b p)))
+      pick_cases Q (rightly_lent l) _ _
+      (λ a. pick_cases Q (right_token (length k.token)) _ _
+      (λ b. pick_cases Q (parks l.tabled.units k clock) _ _ (parked' a b)
+      (λ p. subst (λ (w : Whole). Q (answered l w)) (sym (open_whole l.tabled.units k [] clock p)) (answered' a b p)))
       (h2 a))
       h1
 
 module _ (l : Lent) (s : ℕ) (d : List ℕ) (clock : ℕ) (Q : Outcome → Type 0) where
-  pub close-by : (rightlyLent l ≡ false → Q (gives H1 l)) → (rightlyLent l ≡ true → holds l.tabled.slots s ≡ false → Q (gives H3 l))
-      → (rightlyLent l ≡ true → holds l.tabled.slots s ≡ true
-      → Q (answered (lent (tables l.tabled.units (freed s l.tabled.slots)) l.reply) (whole l.tabled.units (heldBy (slot_at s l.tabled.slots)) d clock)))
-      → Q (closeOut l s d clock)
-  unfolding closeOut
-  close-by h1 h3 closed =
-      pick-cases Q (rightlyLent l) _ _ (λ a. pick-cases Q (holds l.tabled.slots s) _ _ (closed a) (h3 a)) h1
+  pub close_by : (rightly_lent l ≡ false → Q (gives H1 l)) → (rightly_lent l ≡ true → holds l.tabled.slots s ≡ false → Q (gives H3 l))
+      → (rightly_lent l ≡ true → holds l.tabled.slots s ≡ true
+      → Q (answered (lent (tables l.tabled.units (freed s l.tabled.slots)) l.reply) (whole l.tabled.units (held_by (slot_at s l.tabled.slots)) d clock)))
+      → Q (close_out l s d clock)
+  unfolding close_out
+  close_by h1 h3 closed =
+      pick_cases Q (rightly_lent l) _ _ (λ a. pick_cases Q (holds l.tabled.slots s) _ _ (closed a) (h3 a)) h1
 
 -- ---- what slots hold
 
-pub view-blank : view blankRecord ≡ vacant
+pub view_blank : view blank_record ≡ vacant
 unfolding view
-view-blank = rw record-free
+view_blank = rw record_free
 
-pub view-open : (rec : List ℕ) → slotStateOf rec ≡ Open → view rec ≡ held (heldBy rec)
+pub view_open : (rec : List ℕ) → slot_state_of rec ≡ Open → view rec ≡ held (held_by rec)
 unfolding view
-view-open rec e = rw e
+view_open rec e = rw e
 
 -- a parked record gives back what was put in
-pub held-parked : (u : ℕ) (c token : List ℕ) → u ≤ 7 → length token ≤ 64 → legalLen (code_of c) (length c) ≡ true
-    → heldBy (openRecord u c token) ≡ asked u c token
-held-parked u c token hu h64 hl =
-    let n = legal-small (code_of c) (length c) hl in
-    ap₂ (λ (v : ℕ) (x : List ℕ). asked v x (slotToken (openRecord u c token))) (open-unit u c token (omega arith) h64 (omega arith)) (open-command u c token (omega arith) h64)
-    ∙ ap (λ (x : List ℕ). asked u c x) (open-token u c token (omega arith) h64)
+pub held_parked : (u : ℕ) (c token : List ℕ) → u ≤ 7 → length token ≤ 64 → legal_len (code_of c) (length c) ≡ true
+    → held_by (open_record u c token) ≡ asked u c token
+held_parked u c token hu h64 hl =
+    let n = legal_small (code_of c) (length c) hl in
+    ap₂ (λ (v : ℕ) (x : List ℕ). asked v x (slot_token (open_record u c token))) (open_unit u c token (omega arith) h64 (omega arith)) (open_command u c token (omega arith) h64)
+    ∙ ap (λ (x : List ℕ). asked u c x) (open_token u c token (omega arith) h64)
 
-view-parked : (u : ℕ) (c token : List ℕ) → u ≤ 7 → 16 ≤ length token → length token ≤ 64 → dataOut (code_of c) ≡ true
-    → legalLen (code_of c) (length c) ≡ true → view (openRecord u c token) ≡ held (asked u c token)
-view-parked u c token hu h16 h64 hd hl =
-    view-open (openRecord u c token) (parked-open u c token hu h16 h64 hd hl) ∙ ap held (held-parked u c token hu h64 hl)
+view_parked : (u : ℕ) (c token : List ℕ) → u ≤ 7 → 16 ≤ length token → length token ≤ 64 → data_out (code_of c) ≡ true
+    → legal_len (code_of c) (length c) ≡ true → view (open_record u c token) ≡ held (asked u c token)
+view_parked u c token hu h16 h64 hd hl =
+    view_open (open_record u c token) (parked_open u c token hu h16 h64 hd hl) ∙ ap held (held_parked u c token hu h64 hl)
 
-agrees-put : (slots new : List ℕ) (ledger : Ledger) (s : ℕ) (x : Option Asked) → view (slot_at s new) ≡ toView x
+agrees_put : (slots new : List ℕ) (ledger : Ledger) (s : ℕ) (x : Option Asked) → view (slot_at s new) ≡ to_view x
     → ((j : ℕ) → (s ≡ j → ⊥) → slot_at j new ≡ slot_at j slots) → Agrees slots ledger → Agrees new (put ledger s x)
-agrees-put slots new ledger s x here other agrees i h = by_cases (eqb i s) refl
+agrees_put slots new ledger s x here other agrees i h = by_cases (eqb i s) refl
   where
-    by_cases : (b : Bool) → eqb i s ≡ b → view (slot_at i new) ≡ toView (pick b x (ledger i))
+    by_cases : (b : Bool) → eqb i s ≡ b → view (slot_at i new) ≡ to_view (pick b x (ledger i))
     by_cases true e = ap (λ (j : ℕ). view (slot_at j new)) (eqb-true i s e) ∙ here
     by_cases false e = ap view (other i (λ q. eqb-false i s e (sym q))) ∙ agrees i h
 
 -- the ledger has what an open slot holds
-held-some : (o : Option Asked) (k : Asked) → held k ≡ toView o → o ≡ some k
-held-some none k e = let z : ◌≡◌ {A = ℕ} 0 1 = cc in absurd (omega arith)
-held-some (some x) k e = cc
+held_some : (o : Option Asked) (k : Asked) → held k ≡ to_view o → o ≡ some k
+held_some none k e = let z : ◌≡◌ {A = ℕ} 0 1 = cc in absurd (omega arith)
+held_some (some x) k e = cc
 
-pub ledger-holds : (slots : List ℕ) (ledger : Ledger) → Agrees slots ledger → (s : ℕ) → holds slots s ≡ true
-    → ledger s ≡ some (heldBy (slot_at s slots))
-ledger-holds slots ledger agrees s h =
-    let p = holds-open slots s h in
-    held-some (ledger s) (heldBy (slot_at s slots)) (sym (view-open (slot_at s slots) p.1) ∙ agrees s p.0)
+pub ledger_holds : (slots : List ℕ) (ledger : Ledger) → Agrees slots ledger → (s : ℕ) → holds slots s ≡ true
+    → ledger s ≡ some (held_by (slot_at s slots))
+ledger_holds slots ledger agrees s h =
+    let p = holds_open slots s h in
+    held_some (ledger s) (held_by (slot_at s slots)) (sym (view_open (slot_at s slots) p.1) ∙ agrees s p.0)
 
 -- ---- the token of a command that a slot holds has 16 to 64 bytes
 
-pub held-token : (rec : List ℕ) → length rec ≡ 512 → slotStateOf rec ≡ Open → rightToken (length (slotToken rec)) ≡ true
-unfolding slotToken rightToken
-held-token rec full e =
-    let s = open-sound rec e in
-    let long : length (take (tokenLength rec) (drop 108 rec)) ≡ tokenLength rec = length-take-le (tokenLength rec) (drop 108 rec) (rw length-drop (omega (arith, s.most))) in
-    rw (long, le-leb 16 (tokenLength rec) s.least, le-leb (tokenLength rec) 64 s.most)
+pub held_token : (rec : List ℕ) → length rec ≡ 512 → slot_state_of rec ≡ Open → right_token (length (slot_token rec)) ≡ true
+unfolding slot_token right_token
+held_token rec full e =
+    let s = open_sound rec e in
+    let long : length (take (token_length rec) (drop 108 rec)) ≡ token_length rec = length-take-le (token_length rec) (drop 108 rec) (rw length-drop (omega (arith, s.most))) in
+    rw (long, le-leb 16 (token_length rec) s.least, le-leb (token_length rec) 64 s.most)
 
 -- ---- what one call does
 
 -- the tables that it leaves, the whole command that it answers, if any, and its reply
 pub record Stepped (t : Tables) (ledger : Ledger) (k : Call) (a : Answer) (r : List ℕ) (n : Tables) : Type 0 where
   pub fits : Fits n (after ledger k a)
-  pub singly : Singly t.units (doneIn ledger k a r) n.units
-  pub counted : length (doneIn ledger k a r) ≡ finalIn k a
-  pub reply-kept : KeepsReply k a r
+  pub singly : Singly t.units (done_in ledger k a r) n.units
+  pub counted : length (done_in ledger k a r) ≡ final_in k a
+  pub reply_kept : KeepsReply k a r
 
 -- an outcome that is known tells the answer, the tables and the reply
 told : (t : Tables) (ledger : Ledger) (k : Call) (a b : Answer) (r s : List ℕ) (n m : Tables) → gives a (lent n r) ≡ gives b (lent m s)
     → Stepped t ledger k b s m → Stepped t ledger k a r n
 told t ledger k a b r s n m e h =
-    let p = one-outcome a b (lent n r) (lent m s) (gives b (lent m s)) e refl in
+    let p = one_outcome a b (lent n r) (lent m s) (gives b (lent m s)) e refl in
     let et : m ≡ n = ap (λ (x : Lent). x.tabled) (sym p.1) in
     let er : s ≡ r = ap (λ (x : Lent). x.reply) (sym p.1) in
     subst (λ (x : Answer). Stepped t ledger k x r n) (sym p.0) (subst (λ (x : List ℕ). Stepped t ledger k b x n) er (subst (λ (x : Tables). Stepped t ledger k b s x) et h))
 
-front-written : (l ys : List ℕ) (n : ℕ) → length ys ≡ n → take n (patch l 0 ys) ≡ ys
+front_written : (l ys : List ℕ) (n : ℕ) → length ys ≡ n → take n (patch l 0 ys) ≡ ys
 unfolding patch
-front-written l ys n e = take_at ys _ n e
+front_written l ys n e = take_at ys _ n e
 
-front_kept : (w : Whole) (reply : List ℕ) → length w.written ≡ countIn w.answer
-    → patch reply 0 w.written ≡ patch reply 0 (take (countIn w.answer) (patch reply 0 w.written))
-front_kept w reply e = ap (patch reply 0) (sym (front-written reply w.written _ e))
+front_kept : (w : Whole) (reply : List ℕ) → length w.written ≡ count_in w.answer
+    → patch reply 0 w.written ≡ patch reply 0 (take (count_in w.answer) (patch reply 0 w.written))
+front_kept w reply e = ap (patch reply 0) (sym (front_written reply w.written _ e))
 
 none_written : (reply : List ℕ) (n : ℕ) → n ≡ 0 → reply ≡ patch reply 0 (take n reply)
 unfolding patch
 none_written reply n e = rw e
 
 -- the whole command, and what its step shows of it
-whole-singly : (us : List ℕ) (k : Asked) (d : List ℕ) (clock : ℕ) (reply : List ℕ)
-    → Singly us (done k d clock (whole us k d clock).answer (take (countIn (whole us k d clock).answer) (patch reply 0 (whole us k d clock).written)) ∷ []) (whole us k d clock).units
-whole-singly us k d clock reply = (refl, sym (front-written reply (whole us k d clock).written _ (whole-written us k d clock)), refl)
+whole_singly : (us : List ℕ) (k : Asked) (d : List ℕ) (clock : ℕ) (reply : List ℕ)
+    → Singly us (done k d clock (whole us k d clock).answer (take (count_in (whole us k d clock).answer) (patch reply 0 (whole us k d clock).written)) ∷ []) (whole us k d clock).units
+whole_singly us k d clock reply = (refl, sym (front_written reply (whole us k d clock).written _ (whole_written us k d clock)), refl)
 
 module _ (t : Tables) (ledger : Ledger) (fit : Fits t ledger) where
   -- ---- an open
 
   module _ (k : Asked) (clock : ℕ) (reply : List ℕ) where
-    answered-step : Stepped t ledger (opens k clock reply) (whole t.units k [] clock).answer (patch reply 0 (whole t.units k [] clock).written)
+    answered_step : Stepped t ledger (opens k clock reply) (whole t.units k [] clock).answer (patch reply 0 (whole t.units k [] clock).written)
         (tables (whole t.units k [] clock).units t.slots)
-    answered-step =
-        let f = whole-final t.units k [] clock in
+    answered_step =
+        let f = whole_final t.units k [] clock in
         record {
           fits =
-              rw (final-not-parked (whole t.units k [] clock).answer f) (record { units-length = whole_length t.units k [] clock fit.units-length; slots_length = fit.slots_length; agrees = fit.agrees });
-          singly = rw f (whole-singly t.units k [] clock reply);
+              rw (final_not_parked (whole t.units k [] clock).answer f) (record { units_length = whole_length t.units k [] clock fit.units_length; slots_length = fit.slots_length; agrees = fit.agrees });
+          singly = rw f (whole_singly t.units k [] clock reply);
           counted = rw f;
-          reply-kept = front_kept (whole t.units k [] clock) reply (whole-written t.units k [] clock);
+          reply_kept = front_kept (whole t.units k [] clock) reply (whole_written t.units k [] clock);
         }
 
     -- an answer that is none to a command
-    quiet : (a : Answer) → isFinal a ≡ false → countIn a ≡ 0 → is_a 1 a ≡ false → Stepped t ledger (opens k clock reply) a reply t
-    quiet a f z e = record { fits = rw e fit; singly = rw f; counted = rw f; reply-kept = none_written reply (countIn a) z }
+    quiet : (a : Answer) → is_final a ≡ false → count_in a ≡ 0 → is_a 1 a ≡ false → Stepped t ledger (opens k clock reply) a reply t
+    quiet a f z e = record { fits = rw e fit; singly = rw f; counted = rw f; reply_kept = none_written reply (count_in a) z }
 
-    parked-step : rightToken (length k.token) ≡ true → parks t.units k clock ≡ true → (s : SlotNo) → lowestFree t.slots ≡ At s
+    parked_step : right_token (length k.token) ≡ true → parks t.units k clock ≡ true → (s : SlotNo) → lowest_free t.slots ≡ At s
         → Stepped t ledger (opens k clock reply) (Parked s) reply (tables t.units (parked s.0 k.unit k.command k.token t.slots))
-    parked-step sized p s f =
-        let q = both_true (eqb (reasonAtOpen t.units k clock) 0) (dataOut (code_of k.command)) p in
-        let o = open-passed (seen t.units k.unit) k.command k.token clock (eqb-true _ 0 q.0) in
-        let n = legal-small (code_of k.command) (length k.command) o.legal in
-        let w = token-is (length k.token) sized in
+    parked_step sized p s f =
+        let q = both_true (eqb (reason_at_open t.units k clock) 0) (data_out (code_of k.command)) p in
+        let o = open_passed (seen t.units k.unit) k.command k.token clock (eqb-true _ 0 q.0) in
+        let n = legal_small (code_of k.command) (length k.command) o.legal in
+        let w = token_is (length k.token) sized in
         let small = o.small in
         let h = (lowest t.slots s f).0 in
         let fits-100 : length k.command ≤ 100 = omega arith in
         record {
           fits =
               record {
-                units-length = fit.units-length;
-                slots_length = parked-length s.0 k.unit k.command k.token t.slots fits-100 w.1 fit.slots_length h;
+                units_length = fit.units_length;
+                slots_length = parked_length s.0 k.unit k.command k.token t.slots fits-100 w.1 fit.slots_length h;
                 agrees =
-                    agrees-put t.slots _ ledger s.0 (some k)
-                    (ap view (parked-here s.0 k.unit k.command k.token t.slots fits-100 w.1 fit.slots_length h)
-                    ∙ view-parked k.unit k.command k.token (omega arith) w.0 w.1 q.1 o.legal)
-                    (parked-other s.0 k.unit k.command k.token t.slots fits-100 w.1 fit.slots_length h) fit.agrees;
+                    agrees_put t.slots _ ledger s.0 (some k)
+                    (ap view (parked_here s.0 k.unit k.command k.token t.slots fits-100 w.1 fit.slots_length h)
+                    ∙ view_parked k.unit k.command k.token (omega arith) w.0 w.1 q.1 o.legal)
+                    (parked_other s.0 k.unit k.command k.token t.slots fits-100 w.1 fit.slots_length h) fit.agrees;
               };
           singly = refl;
           counted = refl;
-          reply-kept = none_written reply 0 refl;
+          reply_kept = none_written reply 0 refl;
         }
 
-    by-slot : (a : Answer) (r : List ℕ) (n : Tables) → rightToken (length k.token) ≡ true → parks t.units k clock ≡ true
-        → (f : Found) → lowestFree t.slots ≡ f
-        → gives a (lent n r) ≡ onSlots (lent t reply) (parkedIn t.slots k f) → Stepped t ledger (opens k clock reply) a r n
-    by-slot a r n sized p (At s) f e = told t ledger (opens k clock reply) a (Parked s) r reply n _ e (parked-step sized p s f)
-    by-slot a r n sized p Nothing f e = told t ledger (opens k clock reply) a Full r reply n t e (quiet Full refl refl refl)
+    by_slot : (a : Answer) (r : List ℕ) (n : Tables) → right_token (length k.token) ≡ true → parks t.units k clock ≡ true
+        → (f : Found) → lowest_free t.slots ≡ f
+        → gives a (lent n r) ≡ on_slots (lent t reply) (parked_in t.slots k f) → Stepped t ledger (opens k clock reply) a r n
+    by_slot a r n sized p (At s) f e = told t ledger (opens k clock reply) a (Parked s) r reply n _ e (parked_step sized p s f)
+    by_slot a r n sized p Nothing f e = told t ledger (opens k clock reply) a Full r reply n t e (quiet Full refl refl refl)
 
-    pub open_step : (a : Answer) (r : List ℕ) (n : Tables) → gives a (lent n r) ≡ openOut (lent t reply) k clock
+    pub open_step : (a : Answer) (r : List ℕ) (n : Tables) → gives a (lent n r) ≡ open_out (lent t reply) k clock
         → Stepped t ledger (opens k clock reply) a r n
     open_step a r n =
         open_by (lent t reply) k clock (λ (o : Outcome). gives a (lent n r) ≡ o → Stepped t ledger (opens k clock reply) a r n)
         (λ h e. told t ledger (opens k clock reply) a H1 r reply n t e (quiet H1 refl refl refl))
         (λ h g e. told t ledger (opens k clock reply) a H2 r reply n t e (quiet H2 refl refl refl))
-        (λ h g p e. by-slot a r n g p (lowestFree t.slots) refl e)
-        (λ h g p e. told t ledger (opens k clock reply) a _ r _ n _ e answered-step)
+        (λ h g p e. by_slot a r n g p (lowest_free t.slots) refl e)
+        (λ h g p e. told t ledger (opens k clock reply) a _ r _ n _ e answered_step)
 
   -- ---- a slot that is freed
 
-  freed-fits : (s : ℕ) → s < 16 → (us : List ℕ) → length us ≡ 4096 → Fits (tables us (freed s t.slots)) (put ledger s none)
-  freed-fits s h us full =
+  freed_fits : (s : ℕ) → s < 16 → (us : List ℕ) → length us ≡ 4096 → Fits (tables us (freed s t.slots)) (put ledger s none)
+  freed_fits s h us full =
       record {
-        units-length = full;
-        slots_length = freed-length s t.slots fit.slots_length h;
+        units_length = full;
+        slots_length = freed_length s t.slots fit.slots_length h;
         agrees =
-            agrees-put t.slots (freed s t.slots) ledger s none (ap view (freed-here s t.slots fit.slots_length h) ∙ view-blank)
-            (freed-other s t.slots fit.slots_length h) fit.agrees;
+            agrees_put t.slots (freed s t.slots) ledger s none (ap view (freed_here s t.slots fit.slots_length h) ∙ view_blank)
+            (freed_other s t.slots fit.slots_length h) fit.agrees;
       }
 
   -- ---- a close
 
   module _ (s : ℕ) (d : List ℕ) (clock : ℕ) (reply : List ℕ) where
-    kept : (a : Answer) → isFinal a ≡ false → countIn a ≡ 0 → Stepped t ledger (closes s d clock reply) a reply t
-    kept a f z = record { fits = rw f fit; singly = rw f; counted = rw f; reply-kept = none_written reply (countIn a) z }
+    kept : (a : Answer) → is_final a ≡ false → count_in a ≡ 0 → Stepped t ledger (closes s d clock reply) a reply t
+    kept a f z = record { fits = rw f fit; singly = rw f; counted = rw f; reply_kept = none_written reply (count_in a) z }
 
     abbrev w : Whole
-    w = whole t.units (heldBy (slot_at s t.slots)) d clock
+    w = whole t.units (held_by (slot_at s t.slots)) d clock
 
     closed : holds t.slots s ≡ true
         → Stepped t ledger (closes s d clock reply) w.answer (patch reply 0 w.written) (tables w.units (freed s t.slots))
     closed h =
-        let k = heldBy (slot_at s t.slots) in
-        let here = ledger-holds t.slots ledger fit.agrees s h in
-        let f = whole-final t.units k d clock in
+        let k = held_by (slot_at s t.slots) in
+        let here = ledger_holds t.slots ledger fit.agrees s h in
+        let f = whole_final t.units k d clock in
         record {
-          fits = rw f (freed-fits s (holds-open t.slots s h).0 _ (whole_length t.units k d clock fit.units-length));
-          singly = rw (f, here) (whole-singly t.units k d clock reply);
+          fits = rw f (freed_fits s (holds_open t.slots s h).0 _ (whole_length t.units k d clock fit.units_length));
+          singly = rw (f, here) (whole_singly t.units k d clock reply);
           counted = rw (f, here);
-          reply-kept = front_kept w reply (whole-written t.units k d clock);
+          reply_kept = front_kept w reply (whole_written t.units k d clock);
         }
 
-    pub close-step : (a : Answer) (r : List ℕ) (n : Tables) → gives a (lent n r) ≡ closeOut (lent t reply) s d clock
+    pub close_step : (a : Answer) (r : List ℕ) (n : Tables) → gives a (lent n r) ≡ close_out (lent t reply) s d clock
         → Stepped t ledger (closes s d clock reply) a r n
-    close-step a r n =
-        close-by (lent t reply) s d clock (λ (o : Outcome). gives a (lent n r) ≡ o → Stepped t ledger (closes s d clock reply) a r n)
+    close_step a r n =
+        close_by (lent t reply) s d clock (λ (o : Outcome). gives a (lent n r) ≡ o → Stepped t ledger (closes s d clock reply) a r n)
         (λ h e. told t ledger (closes s d clock reply) a H1 r reply n t e (kept H1 refl refl))
         (λ h g e. told t ledger (closes s d clock reply) a H3 r reply n t e (kept H3 refl refl))
         (λ h g e. told t ledger (closes s d clock reply) a _ r _ n _ e (closed g))
 
   -- ---- an abort and a reset
 
-  told-slots : (k : Call) (a : Answer) (r : List ℕ) (n : Tables) (b : Answer) (ss : List ℕ) → leaves a n.slots ≡ leaves b ss
+  told_slots : (k : Call) (a : Answer) (r : List ℕ) (n : Tables) (b : Answer) (ss : List ℕ) → leaves a n.slots ≡ leaves b ss
       → n.units ≡ t.units
       → Stepped t ledger k b r (tables t.units ss) → Stepped t ledger k a r n
-  told-slots k a r n b ss e eu h =
+  told_slots k a r n b ss e eu h =
       let p = one_table a b n.slots ss (leaves b ss) e refl in
       let et : tables t.units ss ≡ n = ap₂ tables (sym eu) (sym p.1) in
       subst (λ (x : Answer). Stepped t ledger k x r n) (sym p.0) (subst (λ (x : Tables). Stepped t ledger k b r x) et h)
 
-  pub abort-step : (s : ℕ) (a : Answer) (r : List ℕ) (n : Tables) → leaves a n.slots ≡ abortOut t.slots s → n.units ≡ t.units
+  pub abort_step : (s : ℕ) (a : Answer) (r : List ℕ) (n : Tables) → leaves a n.slots ≡ abort_out t.slots s → n.units ≡ t.units
       → r ≡ []
       → Stepped t ledger (aborts s) a r n
-  unfolding abortOut
-  abort-step s a r n e eu er = by_cases (holds t.slots s) refl (rw (eq-eqb _ _ fit.slots_length) at e)
+  unfolding abort_out
+  abort_step s a r n e eu er = by_cases (holds t.slots s) refl (rw (eq-eqb _ _ fit.slots_length) at e)
     where
       by_cases : (b : Bool) → holds t.slots s ≡ b
           → leaves a n.slots ≡ pick b (leaves (Good 0) (freed s t.slots)) (leaves H3 t.slots) → Stepped t ledger (aborts s) a r n
       by_cases true q h =
-          told-slots (aborts s) a r n (Good 0) (freed s t.slots) h eu
-          (record { fits = freed-fits s (holds-open t.slots s q).0 t.units fit.units-length; singly = refl; counted = refl; reply-kept = er })
+          told_slots (aborts s) a r n (Good 0) (freed s t.slots) h eu
+          (record { fits = freed_fits s (holds_open t.slots s q).0 t.units fit.units_length; singly = refl; counted = refl; reply_kept = er })
       by_cases false q h =
-          told-slots (aborts s) a r n H3 t.slots h eu (record { fits = fit; singly = refl; counted = refl; reply-kept = er })
+          told_slots (aborts s) a r n H3 t.slots h eu (record { fits = fit; singly = refl; counted = refl; reply_kept = er })
 
-  pub reset-step : (a : Answer) (r : List ℕ) (n : Tables) → leaves a n.slots ≡ resetOut t.slots → n.units ≡ t.units → r ≡ []
+  pub reset_step : (a : Answer) (r : List ℕ) (n : Tables) → leaves a n.slots ≡ reset_out t.slots → n.units ≡ t.units → r ≡ []
       → Stepped t ledger resets a r n
-  unfolding resetOut
-  reset-step a r n e eu er =
-      told-slots resets a r n (Good 0) (allFreed t.slots) (rw (eq-eqb _ _ fit.slots_length) at e) eu
+  unfolding reset_out
+  reset_step a r n e eu er =
+      told_slots resets a r n (Good 0) (all_freed t.slots) (rw (eq-eqb _ _ fit.slots_length) at e) eu
       (record {
         fits =
             record {
-              units-length = fit.units-length;
-              slots_length = all-freed-length t.slots fit.slots_length;
-              agrees = λ i h. ap view (all-freed t.slots fit.slots_length i h) ∙ view-blank;
+              units_length = fit.units_length;
+              slots_length = all_freed_length t.slots fit.slots_length;
+              agrees = λ i h. ap view (all_freed_lem t.slots fit.slots_length i h) ∙ view_blank;
             };
         singly = refl;
         counted = refl;
-        reply-kept = er;
+        reply_kept = er;
       })
 
   -- ---- any call
 
   pub call_step : (k : Call) (a : Answer) (r : List ℕ) (n : Tables) → Meets t k a r n → Stepped t ledger k a r n
   call_step (opens k clock reply) a r n e = open_step k clock reply a r n e
-  call_step (closes s d clock reply) a r n e = close-step s d clock reply a r n e
-  call_step (aborts s) a r n e = abort-step s a r n e.0 e.1 e.2
-  call_step resets a r n e = reset-step a r n e.0 e.1 e.2
+  call_step (closes s d clock reply) a r n e = close_step s d clock reply a r n e
+  call_step (aborts s) a r n e = abort_step s a r n e.0 e.1 e.2
+  call_step resets a r n e = reset_step a r n e.0 e.1 e.2

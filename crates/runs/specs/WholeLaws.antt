@@ -9,81 +9,81 @@ use mathlib.Core.List.{List, []}
 use Rattle.std.proofs.Math.ListN.{length}
 use borrow.Author.Tests.{eqb-true, eqb-false}
 use Rattle.choice.specs.Choice.{both, pick}
-use Rattle.choice.specs.ChoiceLaws.{pick-cases}
+use Rattle.choice.specs.ChoiceLaws.{pick_cases}
 use Rattle.wire.specs.Bytes.{patch}
-use Rattle.wire.specs.PatchLaws.{record-here, record-other, record-length}
-use Rattle.model.specs.Protocol.{protocolOut, setAttributes}
-use Rattle.model.specs.Codes.{dataOut}
+use Rattle.wire.specs.PatchLaws.{record_here, record_other, record_length}
+use Rattle.model.specs.Protocol.{protocol_out, set_attributes}
+use Rattle.model.specs.Codes.{data_out}
 use Rattle.model.specs.Refusal.{refusal}
 use Rattle.model.specs.Totals.{total_of}
-use Rattle.model.specs.Answers.{isFinal, countIn}
+use Rattle.model.specs.Answers.{is_final, count_in}
 use Rattle.model.specs.declared.Answer.TheVariants.{Good, Run}
 use Rattle.units.specs.declared.UnitState.TheVariants.{Used}
-use Rattle.units.specs.Unit.{unit_at, keeperField, keeperOf, keySetOf, unitState, unitStateOf}
-use Rattle.units.specs.UnitLaws.{unit-length, keeps-has, used-has, keeper-small, same-keeper, same-state}
+use Rattle.units.specs.Unit.{unit_at, keeper_field, keeper_of, key_set_of, unit_state, unit_state_of}
+use Rattle.units.specs.UnitLaws.{unit_length, keeps_has, used_has, keeper_small, same_keeper, same_state}
 use Rattle.judge.specs.Command.{code_of, page_of}
 use Rattle.judge.specs.Seen.{seen}
-use Rattle.judge.specs.JudgementLaws.{open-passed}
-use Rattle.pages.specs.Out.{newMethod, newTag, wrongList}
-use Rattle.pages.specs.OutLaws.{right-method}
-use Rattle.pages.specs.Effects.{attributesSet, newKeys}
-use Rattle.pages.specs.EffectLaws.{attributes-length, attributes-frame, attributes-used, new-length, new-used, new-field}
-use Rattle.calls.specs.Whole.{Asked, nothing, attributes, keySet, Local, local, isReplied, replyTo, madeBy, passed, judged, laid, Whole, stored, wholeReason, whole}
-use Rattle.calls.specs.WholeLaws.{out-code, same-reason, passed-same, close-early, close-none, list-passed, judged-passed, judged-refused}
-use Rattle.calls.specs.Open.{reasonAtOpen, parks, answeredAtOpen}
+use Rattle.judge.specs.JudgementLaws.{open_passed}
+use Rattle.pages.specs.Out.{new_method, new_tag, wrong_list}
+use Rattle.pages.specs.OutLaws.{right_method}
+use Rattle.pages.specs.Effects.{attributes_set, new_keys}
+use Rattle.pages.specs.EffectLaws.{attributes_length, attributes_frame, attributes_used, new_length, new_used, new_field}
+use Rattle.calls.specs.Whole.{Asked, nothing, attributes, key_set, Local, local, is_replied, reply_to, made_by, passed, judged, laid, Whole, stored, whole_reason, whole}
+use Rattle.calls.specs.WholeLaws.{out_code, same_reason, passed_same, close_early, close_none, list_passed, judged_passed, judged_refused}
+use Rattle.calls.specs.Open.{reason_at_open, parks, answered_at_open}
 
 -- ---- an open that doesn't park answers the whole command, whatever data would have come
 
 module _ (units : List ℕ) (k : Asked) (d : List ℕ) (clock : ℕ) where
   abbrev r : ℕ
-  r = reasonAtOpen units k clock
+  r = reason_at_open units k clock
 
-  answered-whole : (b : Bool) → eqb (reasonAtOpen units k clock) 0 ≡ b → both b (dataOut (code_of k.command)) ≡ false
-      → answeredAtOpen units k clock ≡ whole units k d clock
+  answered_whole : (b : Bool) → eqb (reason_at_open units k clock) 0 ≡ b → both b (data_out (code_of k.command)) ≡ false
+      → answered_at_open units k clock ≡ whole units k d clock
   unfolding whole
-  answered-whole true e o =
+  answered_whole true e o =
       let s = seen units k.unit in
-      let n = out-code (code_of k.command) o in
-      let z = eqb-true (reasonAtOpen units k clock) 0 e in
-      let same = same-reason s k.command k.token d clock n in
-      ap (stored units k.unit) (judged-passed s k.command [] r z ∙ passed-same s k.command k.token [] clock n d ∙ sym (judged-passed s k.command d (wholeReason units k d clock) (same ∙ z)))
-  answered-whole false e o =
+      let n = out_code (code_of k.command) o in
+      let z = eqb-true (reason_at_open units k clock) 0 e in
+      let same = same_reason s k.command k.token d clock n in
+      ap (stored units k.unit) (judged_passed s k.command [] r z ∙ passed_same s k.command k.token [] clock n d ∙ sym (judged_passed s k.command d (whole_reason units k d clock) (same ∙ z)))
+  answered_whole false e o =
       let s = seen units k.unit in
-      let n = eqb-false (reasonAtOpen units k clock) 0 e in
-      let same = close-early s k.command k.token d clock r refl n in
-      ap (stored units k.unit) (judged-refused s k.command [] r n ∙ ap (λ (x : ℕ). local (refusal x) [] nothing) same ∙ sym (judged-refused s k.command d (wholeReason units k d clock) (λ z. n (same ∙ z))))
+      let n = eqb-false (reason_at_open units k clock) 0 e in
+      let same = close_early s k.command k.token d clock r refl n in
+      ap (stored units k.unit) (judged_refused s k.command [] r n ∙ ap (λ (x : ℕ). local (refusal x) [] nothing) same ∙ sym (judged_refused s k.command d (whole_reason units k d clock) (λ z. n (same ∙ z))))
 
-  pub open-whole : parks units k clock ≡ false → answeredAtOpen units k clock ≡ whole units k d clock
-  open-whole p = answered-whole (eqb (reasonAtOpen units k clock) 0) refl p
+  pub open_whole : parks units k clock ≡ false → answered_at_open units k clock ≡ whole units k d clock
+  open_whole p = answered_whole (eqb (reason_at_open units k clock) 0) refl p
 
 -- ---- the cases
 
 module _ (units : List ℕ) (k : Asked) (d : List ℕ) (clock : ℕ) where
-  pub whole-cases : (P : Whole → Type 0)
-      → ((wholeReason units k d clock ≡ 0 → ⊥) → P (stored units k.unit (local (refusal (wholeReason units k d clock)) [] nothing)))
-      → (wholeReason units k d clock ≡ 0 → eqb (code_of k.command) protocolOut ≡ true
-      → P (stored units k.unit (local (Good 0) [] (madeBy (seen units k.unit) (page_of k.command) d))))
-      → (wholeReason units k d clock ≡ 0 → eqb (code_of k.command) protocolOut ≡ false → isReplied k.command ≡ true
-      → P (stored units k.unit (local (Good (length (replyTo (seen units k.unit) k.command))) (replyTo (seen units k.unit) k.command) nothing)))
-      → (wholeReason units k d clock ≡ 0 → eqb (code_of k.command) protocolOut ≡ false → isReplied k.command ≡ false
+  pub whole_cases : (P : Whole → Type 0)
+      → ((whole_reason units k d clock ≡ 0 → ⊥) → P (stored units k.unit (local (refusal (whole_reason units k d clock)) [] nothing)))
+      → (whole_reason units k d clock ≡ 0 → eqb (code_of k.command) protocol_out ≡ true
+      → P (stored units k.unit (local (Good 0) [] (made_by (seen units k.unit) (page_of k.command) d))))
+      → (whole_reason units k d clock ≡ 0 → eqb (code_of k.command) protocol_out ≡ false → is_replied k.command ≡ true
+      → P (stored units k.unit (local (Good (length (reply_to (seen units k.unit) k.command))) (reply_to (seen units k.unit) k.command) nothing)))
+      → (whole_reason units k d clock ≡ 0 → eqb (code_of k.command) protocol_out ≡ false → is_replied k.command ≡ false
       → P (stored units k.unit (local Run [] nothing)))
       → P (whole units k d clock)
   unfolding whole judged passed
-  whole-cases P refused obeys replies runs =
+  whole_cases P refused obeys replies runs =
       let Q : Local → Type 0 = λ x. P (stored units k.unit x) in
-      pick-cases Q (eqb (wholeReason units k d clock) 0) _ _
-      (λ e. let z = eqb-true (wholeReason units k d clock) 0 e in
-      pick-cases Q (eqb (code_of k.command) protocolOut) _ _ (obeys z) (λ f. pick-cases Q (isReplied k.command) _ _ (replies z f) (runs z f)))
-      (λ e. refused (eqb-false (wholeReason units k d clock) 0 e))
+      pick_cases Q (eqb (whole_reason units k d clock) 0) _ _
+      (λ e. let z = eqb-true (whole_reason units k d clock) 0 e in
+      pick_cases Q (eqb (code_of k.command) protocol_out) _ _ (obeys z) (λ f. pick_cases Q (is_replied k.command) _ _ (replies z f) (runs z f)))
+      (λ e. refused (eqb-false (whole_reason units k d clock) 0 e))
 
-  pub whole-final : isFinal (whole units k d clock).answer ≡ true
+  pub whole_final : is_final (whole units k d clock).answer ≡ true
   unfolding refusal
-  whole-final = whole-cases (λ (w : Whole). isFinal w.answer ≡ true) (λ n. refl) (λ z t. refl) (λ z f r. refl) (λ z f r. refl)
+  whole_final = whole_cases (λ (w : Whole). is_final w.answer ≡ true) (λ n. refl) (λ z t. refl) (λ z f r. refl) (λ z f r. refl)
 
-  pub whole-written : length (whole units k d clock).written ≡ countIn (whole units k d clock).answer
+  pub whole_written : length (whole units k d clock).written ≡ count_in (whole units k d clock).answer
   unfolding refusal
-  whole-written =
-      whole-cases (λ (w : Whole). length w.written ≡ countIn w.answer) (λ n. refl) (λ z t. refl) (λ z f r. refl) (λ z f r. refl)
+  whole_written =
+      whole_cases (λ (w : Whole). length w.written ≡ count_in w.answer) (λ n. refl) (λ z t. refl) (λ z f r. refl) (λ z f r. refl)
 
 -- ---- what an Out page leaves of the unit table
 
@@ -91,16 +91,16 @@ module _ (units : List ℕ) (k : Asked) (d : List ℕ) (clock : ℕ) where
 pub record Obeys (units : List ℕ) (u page : ℕ) (d : List ℕ) : Type 0 where
   pub full : length units ≡ 4096
   pub small : u < 8
-  pub used : unitState units u ≡ Used
+  pub used : unit_state units u ≡ Used
   pub total : length d ≡ total_of page
-  pub right : wrongList page d ≡ false
+  pub right : wrong_list page d ≡ false
 
-pub obeys : (units : List ℕ) (k : Asked) (d : List ℕ) (clock : ℕ) → length units ≡ 4096 → wholeReason units k d clock ≡ 0
-    → eqb (code_of k.command) protocolOut ≡ true → Obeys units k.unit (page_of k.command) d
+pub obeys : (units : List ℕ) (k : Asked) (d : List ℕ) (clock : ℕ) → length units ≡ 4096 → whole_reason units k d clock ≡ 0
+    → eqb (code_of k.command) protocol_out ≡ true → Obeys units k.unit (page_of k.command) d
 obeys units k d clock full z t =
     let s = seen units k.unit in
-    let p = open-passed s k.command k.token clock (close-none s k.command k.token d clock z).0 in
-    let q = list-passed s k.command k.token d clock z t in
+    let p = open_passed s k.command k.token clock (close_none s k.command k.token d clock z).0 in
+    let q = list_passed s k.command k.token d clock z t in
     record { full = full; small = p.small; used = p.used; total = q.0; right = q.1 }
 
 module _ (units : List ℕ) (u page : ℕ) (d : List ℕ) (o : Obeys units u page d) where
@@ -111,125 +111,125 @@ module _ (units : List ℕ) (u page : ℕ) (d : List ℕ) (o : Obeys units u pag
     pub at : place < 8
     pub long : length bytes ≡ 512
     pub put : new ≡ patch units (place * 512) bytes
-    pub sound : unitStateOf place (unit_at place units) ≡ Used
-    pub again : unitStateOf place bytes ≡ Used
-    pub field : keeperField bytes ≡ keeperField (unit_at place units)
-    pub near : (v : ℕ) → (u ≡ v → ⊥) → (keeperOf units u ≡ v → ⊥) → place ≡ v → ⊥
+    pub sound : unit_state_of place (unit_at place units) ≡ Used
+    pub again : unit_state_of place bytes ≡ Used
+    pub field : keeper_field bytes ≡ keeper_field (unit_at place units)
+    pub near : (v : ℕ) → (u ≡ v → ⊥) → (keeper_of units u ≡ v → ⊥) → place ≡ v → ⊥
 
-  written-by : (b : Bool) → eqb page setAttributes ≡ b
-      → Written (laid units u (pick b (attributes (attributesSet (newMethod d) (newTag d) (unit_at u units))) (keySet (newKeys page d (keySetOf units u)))))
-  unfolding keySetOf
-  written-by true e =
-      let full = unit-length u units o.full o.small in
-      let m = right-method page d (eqb-true page setAttributes e) o.right in
-      let own = (used-has units u o.used).0 in
+  written_by : (b : Bool) → eqb page set_attributes ≡ b
+      → Written (laid units u (pick b (attributes (attributes_set (new_method d) (new_tag d) (unit_at u units))) (key_set (new_keys page d (key_set_of units u)))))
+  unfolding key_set_of
+  written_by true e =
+      let full = unit_length u units o.full o.small in
+      let m = right_method page d (eqb-true page set_attributes e) o.right in
+      let own = (used_has units u o.used).0 in
       record {
         place = u;
-        bytes = attributesSet (newMethod d) (newTag d) (unit_at u units);
+        bytes = attributes_set (new_method d) (new_tag d) (unit_at u units);
         at = o.small;
-        long = attributes-length (newMethod d) (newTag d) (unit_at u units) full;
+        long = attributes_length (new_method d) (new_tag d) (unit_at u units) full;
         put = refl;
         sound = own;
-        again = attributes-used (newMethod d) (newTag d) (unit_at u units) full u m own;
-        field = (attributes-frame (newMethod d) (newTag d) (unit_at u units) full).same-field;
+        again = attributes_used (new_method d) (new_tag d) (unit_at u units) full u m own;
+        field = (attributes_frame (new_method d) (new_tag d) (unit_at u units) full).same_field;
         near = λ v n m e. n e;
       }
-  written-by false e =
-      let h = keeper-small units u o.used o.small in
-      let full = unit-length (keeperOf units u) units o.full h in
-      let keeps = keeps-has units (keeperOf units u) (used-has units u o.used).1 in
+  written_by false e =
+      let h = keeper_small units u o.used o.small in
+      let full = unit_length (keeper_of units u) units o.full h in
+      let keeps = keeps_has units (keeper_of units u) (used_has units u o.used).1 in
       record {
-        place = keeperOf units u;
-        bytes = newKeys page d (unit_at (keeperOf units u) units);
+        place = keeper_of units u;
+        bytes = new_keys page d (unit_at (keeper_of units u) units);
         at = h;
-        long = new-length page d (unit_at (keeperOf units u) units) o.right full;
+        long = new_length page d (unit_at (keeper_of units u) units) o.right full;
         put = refl;
         sound = keeps.0;
-        again = new-used page d (unit_at (keeperOf units u) units) o.right full (keeperOf units u) keeps.0 keeps.1;
-        field = new-field page d (unit_at (keeperOf units u) units) o.right full;
+        again = new_used page d (unit_at (keeper_of units u) units) o.right full (keeper_of units u) keeps.0 keeps.1;
+        field = new_field page d (unit_at (keeper_of units u) units) o.right full;
         near = λ v n m e. m e;
       }
 
-  pub written : Written (laid units u (madeBy (seen units u) page d))
-  unfolding madeBy
-  written = written-by (eqb page setAttributes) refl
+  pub written : Written (laid units u (made_by (seen units u) page d))
+  unfolding made_by
+  written = written_by (eqb page set_attributes) refl
 
-  w : Written (laid units u (madeBy (seen units u) page d))
+  w : Written (laid units u (made_by (seen units u) page d))
   w = written
 
-  pub laid-length : length (laid units u (madeBy (seen units u) page d)) ≡ 4096
-  laid-length =
+  pub laid_length : length (laid units u (made_by (seen units u) page d)) ≡ 4096
+  laid_length =
       let h = w.at in
       let full = o.full in
-      ap length w.put ∙ record-length units w.place w.bytes w.long (omega arith) ∙ full
+      ap length w.put ∙ record_length units w.place w.bytes w.long (omega arith) ∙ full
 
   -- no byte of a record but the unit's and its keeper's
-  pub laid-others : (v : ℕ) → (u ≡ v → ⊥) → (keeperOf units u ≡ v → ⊥)
-      → unit_at v (laid units u (madeBy (seen units u) page d)) ≡ unit_at v units
-  laid-others v n m =
+  pub laid_others : (v : ℕ) → (u ≡ v → ⊥) → (keeper_of units u ≡ v → ⊥)
+      → unit_at v (laid units u (made_by (seen units u) page d)) ≡ unit_at v units
+  laid_others v n m =
       let h = w.at in
       let full = o.full in
-      ap (unit_at v) w.put ∙ record-other units w.place w.bytes w.long (omega arith) v (w.near v n m)
+      ap (unit_at v) w.put ∙ record_other units w.place w.bytes w.long (omega arith) v (w.near v n m)
 
   -- what holds of the record that is written, as it was and as it is, holds of every record
-  each-record : (P : ℕ → List ℕ → List ℕ → Type 0) → P w.place w.bytes (unit_at w.place units)
+  each_record : (P : ℕ → List ℕ → List ℕ → Type 0) → P w.place w.bytes (unit_at w.place units)
       → ((v : ℕ) → P v (unit_at v units) (unit_at v units))
-      → (v : ℕ) → P v (unit_at v (laid units u (madeBy (seen units u) page d))) (unit_at v units)
-  each-record P there same v = by_place (eqb w.place v) refl
+      → (v : ℕ) → P v (unit_at v (laid units u (made_by (seen units u) page d))) (unit_at v units)
+  each_record P there same v = by_place (eqb w.place v) refl
     where
-      by_place : (b : Bool) → eqb w.place v ≡ b → P v (unit_at v (laid units u (madeBy (seen units u) page d))) (unit_at v units)
+      by_place : (b : Bool) → eqb w.place v ≡ b → P v (unit_at v (laid units u (made_by (seen units u) page d))) (unit_at v units)
       by_place true e =
           let h = w.at in
           let full = o.full in
           let q = eqb-true w.place v e in
-          let here = ap (unit_at w.place) w.put ∙ record-here units w.place w.bytes w.long (omega arith) in
-          subst (λ (x : ℕ). P x (unit_at x (laid units u (madeBy (seen units u) page d))) (unit_at x units)) q
+          let here = ap (unit_at w.place) w.put ∙ record_here units w.place w.bytes w.long (omega arith) in
+          subst (λ (x : ℕ). P x (unit_at x (laid units u (made_by (seen units u) page d))) (unit_at x units)) q
           (subst (λ (x : List ℕ). P w.place x (unit_at w.place units)) (sym here) there)
       by_place false e =
           let h = w.at in
           let full = o.full in
-          let other = ap (unit_at v) w.put ∙ record-other units w.place w.bytes w.long (omega arith) v (eqb-false w.place v e) in
+          let other = ap (unit_at v) w.put ∙ record_other units w.place w.bytes w.long (omega arith) v (eqb-false w.place v e) in
           subst (λ (x : List ℕ). P v x (unit_at v units)) (sym other) (same v)
 
   -- nobody's keeper moves
-  pub laid-field : (v : ℕ) → keeperField (unit_at v (laid units u (madeBy (seen units u) page d))) ≡ keeperField (unit_at v units)
-  laid-field = each-record (λ v new old. keeperField new ≡ keeperField old) w.field (λ v. refl)
+  pub laid_field : (v : ℕ) → keeper_field (unit_at v (laid units u (made_by (seen units u) page d))) ≡ keeper_field (unit_at v units)
+  laid_field = each_record (λ v new old. keeper_field new ≡ keeper_field old) w.field (λ v. refl)
 
-  pub laid-keeper : (v : ℕ) → keeperOf (laid units u (madeBy (seen units u) page d)) v ≡ keeperOf units v
-  laid-keeper v = same-keeper (laid units u (madeBy (seen units u) page d)) units v (laid-field v)
+  pub laid_keeper : (v : ℕ) → keeper_of (laid units u (made_by (seen units u) page d)) v ≡ keeper_of units v
+  laid_keeper v = same_keeper (laid units u (made_by (seen units u) page d)) units v (laid_field v)
 
   -- and every unit is used or unused, sound or unsound, as it was
-  pub laid-state : (v : ℕ) → unitState (laid units u (madeBy (seen units u) page d)) v ≡ unitState units v
-  laid-state =
-      same-state (laid units u (madeBy (seen units u) page d)) units
-      (each-record (λ v new old. unitStateOf v new ≡ unitStateOf v old) (w.again ∙ sym w.sound) (λ v. refl)) laid-field
+  pub laid_state : (v : ℕ) → unit_state (laid units u (made_by (seen units u) page d)) v ≡ unit_state units v
+  laid_state =
+      same_state (laid units u (made_by (seen units u) page d)) units
+      (each_record (λ v new old. unit_state_of v new ≡ unit_state_of v old) (w.again ∙ sym w.sound) (λ v. refl)) laid_field
 
 -- ---- and so of every whole command
 
 module _ (units : List ℕ) (k : Asked) (d : List ℕ) (clock : ℕ) (full : length units ≡ 4096) where
   pub whole_length : length (whole units k d clock).units ≡ 4096
   whole_length =
-      whole-cases units k d clock (λ (w : Whole). length w.units ≡ 4096) (λ n. full)
-      (λ z t. laid-length units k.unit (page_of k.command) d (obeys units k d clock full z t))
+      whole_cases units k d clock (λ (w : Whole). length w.units ≡ 4096) (λ n. full)
+      (λ z t. laid_length units k.unit (page_of k.command) d (obeys units k d clock full z t))
       (λ z f r. full) (λ z f r. full)
 
-  pub whole-others : (v : ℕ) → (k.unit ≡ v → ⊥) → (keeperOf units k.unit ≡ v → ⊥)
+  pub whole_others : (v : ℕ) → (k.unit ≡ v → ⊥) → (keeper_of units k.unit ≡ v → ⊥)
       → unit_at v (whole units k d clock).units ≡ unit_at v units
-  whole-others v n m =
-      whole-cases units k d clock (λ (w : Whole). unit_at v w.units ≡ unit_at v units) (λ e. refl)
-      (λ z t. laid-others units k.unit (page_of k.command) d (obeys units k d clock full z t) v n m)
+  whole_others v n m =
+      whole_cases units k d clock (λ (w : Whole). unit_at v w.units ≡ unit_at v units) (λ e. refl)
+      (λ z t. laid_others units k.unit (page_of k.command) d (obeys units k d clock full z t) v n m)
       (λ z f r. refl) (λ z f r. refl)
 
-  pub whole-state : (v : ℕ) → unitState (whole units k d clock).units v ≡ unitState units v
-  whole-state v =
-      whole-cases units k d clock (λ (w : Whole). unitState w.units v ≡ unitState units v) (λ n. refl)
-      (λ z t. laid-state units k.unit (page_of k.command) d (obeys units k d clock full z t) v) (λ z f r. refl) (λ z f r. refl)
+  pub whole_state : (v : ℕ) → unit_state (whole units k d clock).units v ≡ unit_state units v
+  whole_state v =
+      whole_cases units k d clock (λ (w : Whole). unit_state w.units v ≡ unit_state units v) (λ n. refl)
+      (λ z t. laid_state units k.unit (page_of k.command) d (obeys units k d clock full z t) v) (λ z f r. refl) (λ z f r. refl)
 
   -- nobody's keeper moves
-  pub whole-field : (v : ℕ) → keeperField (unit_at v (whole units k d clock).units) ≡ keeperField (unit_at v units)
-  whole-field v =
-      whole-cases units k d clock (λ (w : Whole). keeperField (unit_at v w.units) ≡ keeperField (unit_at v units)) (λ n. refl)
-      (λ z t. laid-field units k.unit (page_of k.command) d (obeys units k d clock full z t) v) (λ z f r. refl) (λ z f r. refl)
+  pub whole_field : (v : ℕ) → keeper_field (unit_at v (whole units k d clock).units) ≡ keeper_field (unit_at v units)
+  whole_field v =
+      whole_cases units k d clock (λ (w : Whole). keeper_field (unit_at v w.units) ≡ keeper_field (unit_at v units)) (λ n. refl)
+      (λ z t. laid_field units k.unit (page_of k.command) d (obeys units k d clock full z t) v) (λ z f r. refl) (λ z f r. refl)
 
-  pub whole-keeper : (v : ℕ) → keeperOf (whole units k d clock).units v ≡ keeperOf units v
-  whole-keeper v = same-keeper (whole units k d clock).units units v (whole-field v)
+  pub whole_keeper : (v : ℕ) → keeper_of (whole units k d clock).units v ≡ keeper_of units v
+  whole_keeper v = same_keeper (whole units k d clock).units units v (whole_field v)

@@ -1,9 +1,9 @@
 // The check of a record of 512 bytes, and the blank record, whose check is a constant: nothing is hashed to find or make one.
 ghost use Rattle.std.specs.Prelude.{◌≡◌, ◌≤◌, length, take, replicate};
 ghost use Rattle.wire.specs.Bytes.{same};
-ghost use Rattle.sha1.specs.Sha1.{sha1};
-ghost use Rattle.seal.specs.Seal.{checked, seal, blankRecord};
-ghost use Rattle.seal.specs.BlankLaws.{blankCheck};
+ghost use Rattle.fips180.specs.Sha1.{sha1};
+ghost use Rattle.seal.specs.Seal.{checked, seal, blank_record};
+ghost use Rattle.seal.specs.BlankLaws.{blank_check};
 
 // The SHA-1 of 492 zeros.
 const BLANK_CHECK: [u8; 20] = [
@@ -12,7 +12,7 @@ const BLANK_CHECK: [u8; 20] = [
 ];
 
 fn blank_check() -> [u8; 20]
-    ensures { result ≡ blankCheck }
+    ensures { result ≡ blank_check }
 {
     BLANK_CHECK
 }
@@ -22,7 +22,7 @@ fn check_of(rec: &[u8]) -> [u8; 20]
     requires { 492 ≤ length rec.now }
     ensures { result ≡ sha1 (take 492 rec.now) }
 {
-    sha1::hash(&rec[0..492])
+    fips180::hash(&rec[0..492])
 }
 
 // Are bytes 492-511 the SHA-1 of bytes 0-491?
@@ -47,7 +47,7 @@ pub fn seal_record(rec: &mut [u8])
 // Is this the blank record? One in use is told by its check, and the rest of it is not looked at.
 pub fn is_blank(rec: &[u8]) -> bool
     requires { length rec.now ≡ 512 }
-    ensures { result ≡ same rec.now blankRecord }
+    ensures { result ≡ same rec.now blank_record }
 {
     if wire::same20(wire::bytes20(rec, 492), blank_check()) {
         return wire::are_zeros(rec, 0, 492);
@@ -69,7 +69,7 @@ pub fn clear(d: &mut [u8])
 // Makes the blank record.
 pub fn make_blank(rec: &mut [u8])
     requires { length rec.old ≡ 512 }
-    ensures { rec.new ≡ blankRecord }
+    ensures { rec.new ≡ blank_record }
 {
     clear(rec);
     wire::put(rec, 492, &blank_check());

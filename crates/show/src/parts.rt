@@ -3,8 +3,8 @@ ghost use Rattle.std.specs.Prelude.{◌≡◌, ◌<◌, ◌≤◌, length};
 ghost use Rattle.choice.specs.Choice.{pick};
 ghost use Rattle.units.specs.Unit.{unit_at};
 ghost use Rattle.slots.specs.Slot.{slot_at};
-ghost use Rattle.show.specs.Parts.{keyWrong, wrongKey, tailPart, recordPart, isUnsoundUnit, unitPart};
-ghost use Rattle.show.specs.Parts.{spacePart, openPart, isUnsoundSlot, slotPart};
+ghost use Rattle.show.specs.Parts.{key_wrong, wrong_key, tail_part, record_part, is_unsound_unit, unit_part};
+ghost use Rattle.show.specs.Parts.{space_part, open_part, is_unsound_slot, slot_part};
 
 use super::{SlotPart, UnitPart};
 use model::{KeyVersion, SlotNo, UnitNo};
@@ -23,7 +23,7 @@ fn unit_unless(right: bool, part: UnitPart, rest: UnitPart) -> UnitPart
 // Is the key of a version wrong: not valid, and not zero?
 fn key_wrong(rec: &[u8], v: u32) -> bool
     requires { (length rec.now ≡ 512) × (v < 16) }
-    ensures { result ≡ keyWrong v rec.now }
+    ensures { result ≡ key_wrong v rec.now }
 {
     let valid = units::has_bit(units::mask_of(rec), v);
     let zero = wire::are_zeros(rec, units::WORKING_KEYS + 20 * (v as usize), 20);
@@ -33,7 +33,7 @@ fn key_wrong(rec: &[u8], v: u32) -> bool
 // The lowest version whose key is wrong, or 16.
 fn wrong_key(rec: &[u8]) -> u32
     requires { length rec.now ≡ 512 }
-    ensures { result ≡ wrongKey 16 0 rec.now }
+    ensures { result ≡ wrong_key 16 0 rec.now }
 {
     let mut v: u32 = 0;
     while v < 16 {
@@ -48,7 +48,7 @@ fn wrong_key(rec: &[u8]) -> u32
 // The part, of a record whose check, layout, place, method and step are right.
 fn tail_part(rec: &[u8]) -> UnitPart
     requires { length rec.now ≡ 512 }
-    ensures { result ≡ tailPart rec.now }
+    ensures { result ≡ tail_part rec.now }
 {
     let pending = units::step_of(rec) == 1;
     let next = choice::or(pending, wire::are_zeros(rec, units::NEXT_AUTH_KEY, 40));
@@ -62,7 +62,7 @@ fn tail_part(rec: &[u8]) -> UnitPart
 // The part of a record at its place that is unsound.
 fn record_part(rec: &[u8], place: UnitNo) -> UnitPart
     requires { length rec.now ≡ 512 }
-    ensures { result ≡ recordPart place.0 rec.now }
+    ensures { result ≡ record_part place.0 rec.now }
 {
     let number = wire::be16(rec, units::NUMBER) as u32;
     let tail = tail_part(rec);
@@ -78,7 +78,7 @@ fn record_part(rec: &[u8], place: UnitNo) -> UnitPart
 }
 
 fn is_unsound_unit(state: UnitState) -> bool
-    ensures { result ≡ isUnsoundUnit state }
+    ensures { result ≡ is_unsound_unit state }
 {
     match state {
         UnitState::Unused => false,
@@ -90,7 +90,7 @@ fn is_unsound_unit(state: UnitState) -> bool
 // The first part of soundness that fails in a unit's record, in its table.
 pub fn unit_part(units: &[u8], unit: UnitNo) -> UnitPart
     requires { (length units.now ≡ 4096) × (unit.0 < 8) }
-    ensures { result ≡ unitPart units.now unit.0 }
+    ensures { result ≡ unit_part units.now unit.0 }
 {
     let rec = units::record_of(units, unit);
     let part = record_part(rec, unit);
@@ -110,7 +110,7 @@ fn slot_unless(right: bool, part: SlotPart, rest: SlotPart) -> SlotPart
 // The part among the zeros of a record: past the command, past the token, unnamed.
 fn space_part(rec: &[u8]) -> SlotPart
     requires { length rec.now ≡ 512 }
-    ensures { result ≡ spacePart rec.now }
+    ensures { result ≡ space_part rec.now }
 {
     let n = wire::be16(rec, slots::COMMAND_LENGTH) as usize;
     let m = wire::be16(rec, slots::TOKEN_LENGTH) as usize;
@@ -123,7 +123,7 @@ fn space_part(rec: &[u8]) -> SlotPart
 // The part of a record that is unsound.
 fn open_part(rec: &[u8]) -> SlotPart
     requires { length rec.now ≡ 512 }
-    ensures { result ≡ openPart rec.now }
+    ensures { result ≡ open_part rec.now }
 {
     let n = wire::be16(rec, slots::COMMAND_LENGTH) as usize;
     let m = wire::be16(rec, slots::TOKEN_LENGTH) as usize;
@@ -138,7 +138,7 @@ fn open_part(rec: &[u8]) -> SlotPart
 }
 
 fn is_unsound_slot(state: SlotState) -> bool
-    ensures { result ≡ isUnsoundSlot state }
+    ensures { result ≡ is_unsound_slot state }
 {
     match state {
         SlotState::Free => false,
@@ -150,7 +150,7 @@ fn is_unsound_slot(state: SlotState) -> bool
 // The first part of soundness that fails in a slot's record.
 pub fn slot_part(slots: &[u8], slot: SlotNo) -> SlotPart
     requires { (length slots.now ≡ 8192) × (slot.0 < 16) }
-    ensures { result ≡ slotPart (slot_at slot.0 slots.now) }
+    ensures { result ≡ slot_part (slot_at slot.0 slots.now) }
 {
     let rec = slots::record_of(slots, slot);
     let part = open_part(rec);

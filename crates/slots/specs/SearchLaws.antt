@@ -5,25 +5,25 @@ use Rattle.choice.specs.Choice.{pick}
 use Rattle.model.specs.declared.SlotNo.{SlotNo}
 use Rattle.slots.specs.declared.Found.{Found}
 use Rattle.slots.specs.declared.Found.TheVariants.{At, Nothing}
-use Rattle.slots.specs.Slot.{slotStateOf, slot_at, isFree, freeFrom, lowestFree}
+use Rattle.slots.specs.Slot.{slot_state_of, slot_at, is_free, free_from, lowest_free}
 
 -- ---- the loop, at slot i of sixteen: one that is not free, one that is, none left
 
-left-suc : (i : ℕ) → i < 16 → 16 - i ≡ suc (16 - (i + 1))
-left-suc i h = omega arith
+left_suc : (i : ℕ) → i < 16 → 16 - i ≡ suc (16 - (i + 1))
+left_suc i h = omega arith
 
 module _ (i : ℕ) (slots : List ℕ) (h : i < 16) where
-  pub free_more : isFree (slotStateOf (slot_at i slots)) ≡ false → freeFrom (16 - i) i slots ≡ freeFrom (16 - (i + 1)) (i + 1) slots
-  unfolding freeFrom
-  free_more e = rw (left-suc i h, e)
+  pub free_more : is_free (slot_state_of (slot_at i slots)) ≡ false → free_from (16 - i) i slots ≡ free_from (16 - (i + 1)) (i + 1) slots
+  unfolding free_from
+  free_more e = rw (left_suc i h, e)
 
-  pub free-hit : isFree (slotStateOf (slot_at i slots)) ≡ true → freeFrom (16 - i) i slots ≡ At (record { 0 = i })
-  unfolding freeFrom
-  free-hit e = rw (left-suc i h, e)
+  pub free_hit : is_free (slot_state_of (slot_at i slots)) ≡ true → free_from (16 - i) i slots ≡ At (record { 0 = i })
+  unfolding free_from
+  free_hit e = rw (left_suc i h, e)
 
-pub free-none : (n i : ℕ) (slots : List ℕ) → n ≡ 0 → freeFrom n i slots ≡ Nothing
-unfolding freeFrom
-free-none n i slots z = rw z
+pub free_none : (n i : ℕ) (slots : List ℕ) → n ≡ 0 → free_from n i slots ≡ Nothing
+unfolding free_from
+free_none n i slots z = rw z
 
 -- ---- the result
 
@@ -31,45 +31,45 @@ free-none n i slots z = rw z
 record Lowest (n i : ℕ) (slots : List ℕ) (s : ℕ) : Type 0 where
   pub from : i ≤ s
   pub below : s < i + n
-  pub hit : isFree (slotStateOf (slot_at s slots)) ≡ true
-  pub before : (j : ℕ) → i ≤ j → j < s → isFree (slotStateOf (slot_at j slots)) ≡ false
+  pub hit : is_free (slot_state_of (slot_at s slots)) ≡ true
+  pub before : (j : ℕ) → i ≤ j → j < s → is_free (slot_state_of (slot_at j slots)) ≡ false
 
 -- the first slot is found, or the search goes on behind it
-first-or : (b : Bool) (i : ℕ) (f : Found) (s : SlotNo) → pick b (At (record { 0 = i })) f ≡ At s
+first_or : (b : Bool) (i : ℕ) (f : Found) (s : SlotNo) → pick b (At (record { 0 = i })) f ≡ At s
     → ((b ≡ true) × (s.0 ≡ i)) ⊎ ((b ≡ false) × (f ≡ At s))
-first-or true i f s e = inl (refl, let h : s ≡ record { 0 = i } = cc in ap (λ (x : SlotNo). x.0) h)
-first-or false i f s e = inr (refl, e)
+first_or true i f s e = inl (refl, let h : s ≡ record { 0 = i } = cc in ap (λ (x : SlotNo). x.0) h)
+first_or false i f s e = inr (refl, e)
 
 -- nothing is found: the first slot is not free, and nothing is found behind it
-first-none : (b : Bool) (s : SlotNo) (f : Found) → pick b (At s) f ≡ Nothing → (b ≡ false) × (f ≡ Nothing)
-first-none true s f e = (cc, cc)
-first-none false s f e = (refl, e)
+first_none : (b : Bool) (s : SlotNo) (f : Found) → pick b (At s) f ≡ Nothing → (b ≡ false) × (f ≡ Nothing)
+first_none true s f e = (cc, cc)
+first_none false s f e = (refl, e)
 
 -- what is known of i and of the slots behind it
-behind : (i : ℕ) (slots : List ℕ) (P : ℕ → Type 0) → isFree (slotStateOf (slot_at i slots)) ≡ false
-    → ((j : ℕ) → i + 1 ≤ j → P j → isFree (slotStateOf (slot_at j slots)) ≡ false)
-    → (j : ℕ) → i ≤ j → P j → isFree (slotStateOf (slot_at j slots)) ≡ false
+behind : (i : ℕ) (slots : List ℕ) (P : ℕ → Type 0) → is_free (slot_state_of (slot_at i slots)) ≡ false
+    → ((j : ℕ) → i + 1 ≤ j → P j → is_free (slot_state_of (slot_at j slots)) ≡ false)
+    → (j : ℕ) → i ≤ j → P j → is_free (slot_state_of (slot_at j slots)) ≡ false
 behind i slots P b f j h k =
-    ⊎_elim (λ e. ap (λ (x : ℕ). isFree (slotStateOf (slot_at x slots))) (sym e) ∙ b) (λ g. f j (omega arith) k) (eq-or-lt_of_le h)
+    ⊎_elim (λ e. ap (λ (x : ℕ). is_free (slot_state_of (slot_at x slots))) (sym e) ∙ b) (λ g. f j (omega arith) k) (eq-or-lt_of_le h)
 
-found_from : (n i : ℕ) (slots : List ℕ) (s : SlotNo) → freeFrom n i slots ≡ At s → Lowest n i slots s.0
-unfolding freeFrom
+found_from : (n i : ℕ) (slots : List ℕ) (s : SlotNo) → free_from n i slots ≡ At s → Lowest n i slots s.0
+unfolding free_from
 found_from zero i slots s e = let z : ◌≡◌ {A = ℕ} 0 1 = cc in absurd (omega arith)
 found_from (suc n) i slots s e =
     ⊎_elim here (λ p. there p.0 (found_from n (i + 1) slots s p.1))
-    (first-or (isFree (slotStateOf (slot_at i slots))) i (freeFrom n (i + 1) slots) s e)
+    (first_or (is_free (slot_state_of (slot_at i slots))) i (free_from n (i + 1) slots) s e)
   where
-    here : (isFree (slotStateOf (slot_at i slots)) ≡ true) × (s.0 ≡ i) → Lowest (suc n) i slots s.0
+    here : (is_free (slot_state_of (slot_at i slots)) ≡ true) × (s.0 ≡ i) → Lowest (suc n) i slots s.0
     here p =
         let e : s.0 ≡ i = p.1 in
         record {
           from = omega arith;
           below = omega arith;
-          hit = ap (λ (x : ℕ). isFree (slotStateOf (slot_at x slots))) e ∙ p.0;
+          hit = ap (λ (x : ℕ). is_free (slot_state_of (slot_at x slots))) e ∙ p.0;
           before = λ j h k. absurd (omega arith);
         }
 
-    there : isFree (slotStateOf (slot_at i slots)) ≡ false → Lowest n (i + 1) slots s.0 → Lowest (suc n) i slots s.0
+    there : is_free (slot_state_of (slot_at i slots)) ≡ false → Lowest n (i + 1) slots s.0 → Lowest (suc n) i slots s.0
     there b w =
         record {
           from = omega arith;
@@ -78,22 +78,22 @@ found_from (suc n) i slots s e =
           before = behind i slots (λ (j : ℕ). j < s.0) b w.before;
         }
 
-none_from : (n i : ℕ) (slots : List ℕ) → freeFrom n i slots ≡ Nothing → (j : ℕ) → i ≤ j → j < i + n
-    → isFree (slotStateOf (slot_at j slots)) ≡ false
-unfolding freeFrom
+none_from : (n i : ℕ) (slots : List ℕ) → free_from n i slots ≡ Nothing → (j : ℕ) → i ≤ j → j < i + n
+    → is_free (slot_state_of (slot_at j slots)) ≡ false
+unfolding free_from
 none_from zero i slots e j h k = absurd (omega arith)
 none_from (suc n) i slots e j h k =
-    let p = first-none (isFree (slotStateOf (slot_at i slots))) (record { 0 = i }) (freeFrom n (i + 1) slots) e in
+    let p = first_none (is_free (slot_state_of (slot_at i slots))) (record { 0 = i }) (free_from n (i + 1) slots) e in
     behind i slots (λ (x : ℕ). x < i + 1 + n) p.0 (none_from n (i + 1) slots p.1) j h (omega arith)
 
 -- the slot found is free, and none below it is
-pub lowest : (slots : List ℕ) (s : SlotNo) → lowestFree slots ≡ At s
-    → (s.0 < 16) × (isFree (slotStateOf (slot_at s.0 slots)) ≡ true)
-    × ((j : ℕ) → j < s.0 → isFree (slotStateOf (slot_at j slots)) ≡ false)
-unfolding lowestFree
+pub lowest : (slots : List ℕ) (s : SlotNo) → lowest_free slots ≡ At s
+    → (s.0 < 16) × (is_free (slot_state_of (slot_at s.0 slots)) ≡ true)
+    × ((j : ℕ) → j < s.0 → is_free (slot_state_of (slot_at j slots)) ≡ false)
+unfolding lowest_free
 lowest slots s e = let w = found_from 16 0 slots s e in (omega (arith, w.below), w.hit, λ j h. w.before j (omega arith) h)
 
 -- where none is found, none is free
-pub none_free : (slots : List ℕ) → lowestFree slots ≡ Nothing → (j : ℕ) → j < 16 → isFree (slotStateOf (slot_at j slots)) ≡ false
-unfolding lowestFree
+pub none_free : (slots : List ℕ) → lowest_free slots ≡ Nothing → (j : ℕ) → j < 16 → is_free (slot_state_of (slot_at j slots)) ≡ false
+unfolding lowest_free
 none_free slots e j h = none_from 16 0 slots e j (omega arith) (omega arith)

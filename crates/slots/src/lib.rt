@@ -1,8 +1,8 @@
 // The table of sixteen slots: what a slot's record is, the lowest free slot, and a slot parked, freed, all freed.
 ghost use Rattle.std.specs.Prelude.{◌≡◌, ◌+◌, ◌-◌, ◌≤◌, ◌<◌, length};
 ghost use Rattle.wire.specs.Bytes.{zeros};
-ghost use Rattle.slots.specs.Slot.{rightToken, slotUnit, slotCommand, slotToken, openShape, slotStateOf, openHead, openRecord};
-ghost use Rattle.slots.specs.Slot.{slot_at, isFree, isOpen, lowestFree, parked, freed, allFreed};
+ghost use Rattle.slots.specs.Slot.{right_token, slot_unit, slot_command, slot_token, open_shape, slot_state_of, open_head, open_record};
+ghost use Rattle.slots.specs.Slot.{slot_at, is_free, is_open, lowest_free, parked, freed, all_freed};
 ghost use Rattle.slots.specs.declared.SlotState.TheVariants.{Open};
 
 use model::{SlotNo, UnitNo};
@@ -39,7 +39,7 @@ pub enum Found {
 
 // Is a token of n bytes one of 16 to 64?
 pub fn right_token(n: usize) -> bool
-    ensures { result ≡ rightToken n }
+    ensures { result ≡ right_token n }
 {
     choice::and(16 <= n, n <= 64)
 }
@@ -58,7 +58,7 @@ pub fn zero_past(rec: &[u8], a: usize, room: usize, n: usize) -> bool
 
 // Has the record the shape of an open slot, with zeros where nothing is stored?
 fn open_shape(rec: &[u8]) -> bool
-    ensures { result ≡ openShape rec.now }
+    ensures { result ≡ open_shape rec.now }
 {
     let n = wire::be16(rec, COMMAND_LENGTH) as usize;
     let m = wire::be16(rec, TOKEN_LENGTH) as usize;
@@ -80,7 +80,7 @@ fn open_shape(rec: &[u8]) -> bool
 // What the record is. A free one, the blank record, is told without hashing.
 pub fn slot_state(rec: &[u8]) -> SlotState
     requires { length rec.now ≡ 512 }
-    ensures { result ≡ slotStateOf rec.now }
+    ensures { result ≡ slot_state_of rec.now }
 {
     if seal::is_blank(rec) {
         return SlotState::Free;
@@ -105,14 +105,14 @@ pub fn record_of(slots: &[u8], slot: SlotNo) -> &[u8]
 
 // The unit, the command and the token that an open slot holds.
 pub fn unit_of(rec: &[u8]) -> UnitNo
-    ensures { result.0 ≡ slotUnit rec.now }
+    ensures { result.0 ≡ slot_unit rec.now }
 {
     UnitNo(wire::be16(rec, UNIT) as u32)
 }
 
 pub fn command_of(rec: &[u8]) -> &[u8]
-    requires { (length rec.now ≡ 512) × (slotStateOf rec.now ≡ Open) }
-    ensures { result.now ≡ slotCommand rec.now }
+    requires { (length rec.now ≡ 512) × (slot_state_of rec.now ≡ Open) }
+    ensures { result.now ≡ slot_command rec.now }
 {
     let n = wire::be16(rec, COMMAND_LENGTH) as usize;
     let e = COMMAND + n;
@@ -120,8 +120,8 @@ pub fn command_of(rec: &[u8]) -> &[u8]
 }
 
 pub fn token_of(rec: &[u8]) -> &[u8]
-    requires { (length rec.now ≡ 512) × (slotStateOf rec.now ≡ Open) }
-    ensures { result.now ≡ slotToken rec.now }
+    requires { (length rec.now ≡ 512) × (slot_state_of rec.now ≡ Open) }
+    ensures { result.now ≡ slot_token rec.now }
 {
     let m = wire::be16(rec, TOKEN_LENGTH) as usize;
     let e = TOKEN + m;
@@ -131,13 +131,13 @@ pub fn token_of(rec: &[u8]) -> &[u8]
 // Is the slot sound and free? Nothing is hashed.
 pub fn is_free_at(slots: &[u8], slot: SlotNo) -> bool
     requires { (length slots.now ≡ 8192) × (slot.0 < 16) }
-    ensures { result ≡ isFree (slotStateOf (slot_at slot.0 slots.now)) }
+    ensures { result ≡ is_free (slot_state_of (slot_at slot.0 slots.now)) }
 {
     seal::is_blank(record_of(slots, slot))
 }
 
 fn is_open(s: SlotState) -> bool
-    ensures { result ≡ isOpen s }
+    ensures { result ≡ is_open s }
 {
     match s {
         SlotState::Free => false,
@@ -149,7 +149,7 @@ fn is_open(s: SlotState) -> bool
 // Is the slot sound and open?
 pub fn is_open_at(slots: &[u8], slot: SlotNo) -> bool
     requires { (length slots.now ≡ 8192) × (slot.0 < 16) }
-    ensures { result ≡ isOpen (slotStateOf (slot_at slot.0 slots.now)) }
+    ensures { result ≡ is_open (slot_state_of (slot_at slot.0 slots.now)) }
 {
     is_open(slot_state(record_of(slots, slot)))
 }
@@ -157,7 +157,7 @@ pub fn is_open_at(slots: &[u8], slot: SlotNo) -> bool
 // The lowest sound free slot. Nothing is hashed.
 pub fn lowest_free(slots: &[u8]) -> Found
     requires { length slots.now ≡ 8192 }
-    ensures { result ≡ lowestFree slots.now }
+    ensures { result ≡ lowest_free slots.now }
 {
     let mut i: u32 = 0;
     while i < 16 {
@@ -172,7 +172,7 @@ pub fn lowest_free(slots: &[u8]) -> Found
 
 // The first eight bytes of an open slot: state, unit, and the lengths of command and token.
 fn open_head(unit: UnitNo, n: u32, m: u32) -> [u8; 8]
-    ensures { result ≡ openHead unit.0 n m }
+    ensures { result ≡ open_head unit.0 n m }
 {
     let u = wire::bytes2(unit.0);
     let c = wire::bytes2(n);
@@ -183,7 +183,7 @@ fn open_head(unit: UnitNo, n: u32, m: u32) -> [u8; 8]
 // Makes the record of an open slot.
 fn write_open(rec: &mut [u8], unit: UnitNo, command: &[u8], token: &[u8])
     requires { (length rec.old ≡ 512) × (length command.now ≤ 100) × (length token.now ≤ 64) }
-    ensures { rec.new ≡ openRecord unit.0 command.now token.now }
+    ensures { rec.new ≡ open_record unit.0 command.now token.now }
 {
     let head = open_head(unit, command.len() as u32, token.len() as u32);
     seal::clear(rec);
@@ -214,7 +214,7 @@ pub fn free(slots: &mut [u8], slot: SlotNo)
 // Frees all sixteen.
 pub fn free_all(slots: &mut [u8])
     requires { length slots.old ≡ 8192 }
-    ensures { slots.new ≡ allFreed slots.old }
+    ensures { slots.new ≡ all_freed slots.old }
 {
     let mut next: u32 = 0;
     while next < 16 {

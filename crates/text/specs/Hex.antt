@@ -1,7 +1,7 @@
 -- Hex digits: the value of one, bytes as digits, and digits as bytes.
 use Rattle.std.specs.Prelude.{Bool, true, false, not, List, [], ◌∷◌, ◌++◌, ℕ, zero, suc, ◌+◌, ◌*◌, ◌-◌, ◌/◌, ◌%◌, eqb, leb, ltb, length, get_or}
 use Rattle.choice.specs.Choice.{both, either, pick}
-use Rattle.text.specs.Place.{bad, placeBehind, withText}
+use Rattle.text.specs.Place.{bad, place_behind, with_text}
 
 abbrev pub within : ℕ → ℕ → ℕ → Bool
 within least most c = both (leb least c) (leb c most)
@@ -15,46 +15,46 @@ unfoldable pub digit : ℕ → ℕ → ℕ
 digit ten x = pick (ltb x 10) (0x30 + x) (ten + (x - 10))
 
 -- the two digits of a byte
-unfoldable pub twoDigits : ℕ → ℕ → List ℕ
-twoDigits ten b = digit ten (b / 16) ∷ digit ten (b % 16) ∷ []
+unfoldable pub two_digits : ℕ → ℕ → List ℕ
+two_digits ten b = digit ten (b / 16) ∷ digit ten (b % 16) ∷ []
 
 -- the digits of the first n bytes of l, in lower case
-unfoldable pub digitsOf : ℕ → List ℕ → List ℕ
-digitsOf zero l = []
-digitsOf (suc n) l = digitsOf n l ++ twoDigits 0x61 (get_or l n 0)
+unfoldable pub digits_of : ℕ → List ℕ → List ℕ
+digits_of zero l = []
+digits_of (suc n) l = digits_of n l ++ two_digits 0x61 (get_or l n 0)
 
 -- bytes as text: `-` for none
-unfoldable pub hexText : List ℕ → List ℕ
-hexText l = pick (eqb (length l) 0) (0x2d ∷ []) (digitsOf (length l) l)
+unfoldable pub hex_text : List ℕ → List ℕ
+hex_text l = pick (eqb (length l) 0) (0x2d ∷ []) (digits_of (length l) l)
 
 -- do the first n bytes of s all say a value below base, which is 10 or 16? (Above 16 every byte would.)
-unfoldable pub allDigits : ℕ → ℕ → List ℕ → Bool
-allDigits base zero s = true
-allDigits base (suc n) s = both (allDigits base n s) (ltb (value (get_or s n 0)) base)
+unfoldable pub all_digits : ℕ → ℕ → List ℕ → Bool
+all_digits base zero s = true
+all_digits base (suc n) s = both (all_digits base n s) (ltb (value (get_or s n 0)) base)
 
 -- the n bytes whose digits s starts with
-unfoldable pub bytesIn : ℕ → List ℕ → List ℕ
-bytesIn zero s = []
-bytesIn (suc n) s = bytesIn n s ++ ((value (get_or s (2 * n) 0) * 16 + value (get_or s (2 * n + 1) 0)) ∷ [])
+unfoldable pub bytes_in : ℕ → List ℕ → List ℕ
+bytes_in zero s = []
+bytes_in (suc n) s = bytes_in n s ++ ((value (get_or s (2 * n) 0) * 16 + value (get_or s (2 * n + 1) 0)) ∷ [])
 
 -- `-` alone
-unfoldable pub isDash : List ℕ → Bool
-isDash s = both (eqb (length s) 1) (eqb (get_or s 0 0) 0x2d)
+unfoldable pub is_dash : List ℕ → Bool
+is_dash s = both (eqb (length s) 1) (eqb (get_or s 0 0) 0x2d)
 
 -- one pair of digits or more
-unfoldable pub arePairs : List ℕ → Bool
-arePairs s = both (not (eqb (length s) 0)) (both (eqb (length s % 2) 0) (allDigits 16 (length s) s))
+unfoldable pub are_pairs : List ℕ → Bool
+are_pairs s = both (not (eqb (length s) 0)) (both (eqb (length s % 2) 0) (all_digits 16 (length s) s))
 
 -- is s bytes as text? And those that it says
-unfoldable pub isHex : List ℕ → Bool
-isHex s = either (isDash s) (arePairs s)
+unfoldable pub is_hex : List ℕ → Bool
+is_hex s = either (is_dash s) (are_pairs s)
 
-unfoldable pub hexBytes : List ℕ → List ℕ
-hexBytes s = pick (isDash s) [] (bytesIn (length s / 2) s)
+unfoldable pub hex_bytes : List ℕ → List ℕ
+hex_bytes s = pick (is_dash s) [] (bytes_in (length s / 2) s)
 
 -- the place behind the bytes that s says, put into out from `at` on, and out with them; no place, and out as it was, where s is no hex
-unfoldable pub unhexPlace : List ℕ → List ℕ → ℕ → ℕ
-unhexPlace s out at = pick (isHex s) (placeBehind out at (hexBytes s)) bad
+unfoldable pub unhex_place : List ℕ → List ℕ → ℕ → ℕ
+unhex_place s out at = pick (is_hex s) (place_behind out at (hex_bytes s)) bad
 
-unfoldable pub unhexIn : List ℕ → List ℕ → ℕ → List ℕ
-unhexIn s out at = pick (isHex s) (withText out at (hexBytes s)) out
+unfoldable pub unhex_in : List ℕ → List ℕ → ℕ → List ℕ
+unhex_in s out at = pick (is_hex s) (with_text out at (hex_bytes s)) out

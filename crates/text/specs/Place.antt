@@ -8,12 +8,12 @@ abbrev pub bad : ℕ
 bad = 18446744073709551615
 
 -- has out room for s from `at` on?
-unfoldable pub hasRoom : List ℕ → ℕ → List ℕ → Bool
-hasRoom out at s = leb (at + length s) (length out)
+unfoldable pub has_room : List ℕ → ℕ → List ℕ → Bool
+has_room out at s = leb (at + length s) (length out)
 
 -- the place behind s, put into out from `at` on; and out with s in it, as it was where it has no room
-unfoldable pub placeBehind : List ℕ → ℕ → List ℕ → ℕ
-placeBehind out at s = pick (hasRoom out at s) (at + length s) bad
+unfoldable pub place_behind : List ℕ → ℕ → List ℕ → ℕ
+place_behind out at s = pick (has_room out at s) (at + length s) bad
 
-unfoldable pub withText : List ℕ → ℕ → List ℕ → List ℕ
-withText out at s = pick (hasRoom out at s) (patch out at s) out
+unfoldable pub with_text : List ℕ → ℕ → List ℕ → List ℕ
+with_text out at s = pick (has_room out at s) (patch out at s) out

@@ -4,14 +4,14 @@ use Rattle.choice.specs.Choice.{both, either, pick}
 use Rattle.wire.specs.Bytes.{part}
 
 -- a space or a tab
-unfoldable pub isGap : ℕ → Bool
-isGap c = either (eqb c 0x20) (eqb c 0x09)
+unfoldable pub is_gap : ℕ → Bool
+is_gap c = either (eqb c 0x20) (eqb c 0x09)
 
 -- r is the first place of the line from `at` on where a gap stands (true) or none (false), or the line's end
 abbrev pub First : Bool → ℕ → List ℕ → ℕ → Type 0
 First gap at line r =
     (min at (length line) ≤ r) × ((r ≤ length line)
-    × (((i : ℕ) → at ≤ i → i < r → isGap (get_or line i 0) ≡ not gap) × (r < length line → isGap (get_or line r 0) ≡ gap)))
+    × (((i : ℕ) → at ≤ i → i < r → is_gap (get_or line i 0) ≡ not gap) × (r < length line → is_gap (get_or line r 0) ≡ gap)))
 
 -- a word starts where no gap stands and ends at the next gap; at the line's end, where there is none, it has no bytes. Where it ends, and
 -- its bytes

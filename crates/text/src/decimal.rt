@@ -1,7 +1,7 @@
 // Decimal numbers, read and written.
 ghost use Rattle.std.specs.Prelude.{◌≡◌, false, ◌≤◌, leb, length};
 ghost use Rattle.choice.specs.Choice.{pick};
-ghost use Rattle.text.specs.Decimal.{decimalOf, PutDecimal};
+ghost use Rattle.text.specs.Decimal.{decimal_of, PutDecimal};
 
 use super::hex::value;
 use super::put;
@@ -24,8 +24,8 @@ fn too_large() -> Decimal
 
 // The number that the digits of word say, if it is at most `most`. Of a word that is not all digits (all_digits) it says nothing of use.
 pub fn number_of(word: &[u8], most: u64) -> Decimal
-    ensures fits_value { result.fits ≡ leb (decimalOf (length word.now) word.now) most }
-    ensures value_value { result.value ≡ pick result.fits (decimalOf (length word.now) word.now) 0 }
+    ensures fits_value { result.fits ≡ leb (decimal_of (length word.now) word.now) most }
+    ensures value_value { result.value ≡ pick result.fits (decimal_of (length word.now) word.now) 0 }
     ensures value_le_most { result.value ≤ most }
 {
     let mut said: u64 = 0;

@@ -8,7 +8,7 @@ mod told;
 mod words;
 
 ghost use Rattle.std.specs.Prelude.{◌≡◌};
-ghost use Rattle.text.specs.Place.{placeBehind, withText};
+ghost use Rattle.text.specs.Place.{place_behind, with_text};
 
 pub use decimal::{Decimal, number_of, put_decimal};
 pub use hex::{all_digits, digit, hex20, put_digits, put_hex, unhex, value};
@@ -23,8 +23,8 @@ pub const BAD: usize = 0xffff_ffff_ffff_ffff;
 // Puts s into out from `at` on, and answers the place behind it. Where out has no room for all of s it stays as it is, and the answer is
 // BAD.
 pub fn put(out: &mut [u8], at: usize, s: &[u8]) -> usize
-    ensures value { result ≡ placeBehind out.old at s.now }
-    ensures out_after { out.new ≡ withText out.old at s.now }
+    ensures value { result ≡ place_behind out.old at s.now }
+    ensures out_after { out.new ≡ with_text out.old at s.now }
 {
     if out.len() < at {
         return BAD;

@@ -1,10 +1,10 @@
 // The words of a line: spaces and tabs part them, as many as stand there.
 ghost use Rattle.std.specs.Prelude.{◌≡◌, true, false, length};
-ghost use Rattle.text.specs.Words.{isGap, First, WordAt, WordEnd, unreturned};
+ghost use Rattle.text.specs.Words.{is_gap, First, WordAt, WordEnd, unreturned};
 
 // Does c part words?
 fn is_gap(c: u8) -> bool
-    ensures { result ≡ isGap c }
+    ensures { result ≡ is_gap c }
 {
     choice::or(c == b' ', c == b'\t')
 }

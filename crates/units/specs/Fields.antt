@@ -4,19 +4,19 @@ use Rattle.std.specs.Prelude.{List, ◌++◌, ℕ, eqb, replicate}
 use Rattle.choice.specs.Choice.{pick}
 use Rattle.wire.specs.Bytes.{part, bytes_of, patch}
 use Rattle.seal.specs.Seal.{seal, blank}
-use Rattle.units.specs.Unit.{unitNumber, method, mask, policyTag, step, identifier, authKey, genKey, nextAuthKey, nextGenKey, keeperField}
+use Rattle.units.specs.Unit.{unit_number, method, mask, policy_tag, step, identifier, auth_key_of, gen_key_of, next_auth_key, next_gen_key, keeper_field}
 
 pub record Fields : Type 0 where
   pub number : ℕ
-  pub method-number : ℕ
-  pub valid-mask : ℕ
+  pub method_number : ℕ
+  pub valid_mask : ℕ
   pub tag : ℕ
-  pub step-number : ℕ
+  pub step_number : ℕ
   pub name : List ℕ
   pub auth : List ℕ
   pub generation : List ℕ
-  pub next-auth : List ℕ
-  pub next-generation : List ℕ
+  pub next_auth_lem : List ℕ
+  pub next_generation : List ℕ
   -- sixteen keys of 20 bytes, one behind another
   pub working : List ℕ
   -- zero for own keys, or one more than the keeper's number
@@ -25,48 +25,48 @@ pub record Fields : Type 0 where
 abbrev pub fields_of : List ℕ → Fields
 fields_of l =
     record {
-      number = unitNumber l;
-      method-number = method l;
-      valid-mask = mask l;
-      tag = policyTag l;
-      step-number = step l;
+      number = unit_number l;
+      method_number = method l;
+      valid_mask = mask l;
+      tag = policy_tag l;
+      step_number = step l;
       name = identifier l;
-      auth = authKey l;
-      generation = genKey l;
-      next-auth = nextAuthKey l;
-      next-generation = nextGenKey l;
+      auth = auth_key_of l;
+      generation = gen_key_of l;
+      next_auth_lem = next_auth_key l;
+      next_generation = next_gen_key l;
       working = part 112 320 l;
-      keeper = keeperField l;
+      keeper = keeper_field l;
     }
 
 -- layout 1, then the fields in the record's order
-unfoldable pub usedBody : Fields → List ℕ
-usedBody f =
-    bytes_of 2 1 ++ (bytes_of 2 f.number ++ (bytes_of 2 f.method-number ++ (bytes_of 2 f.valid-mask ++ (bytes_of 4 f.tag ++
-    (bytes_of 4 f.step-number ++ (f.name ++ (f.auth ++ (f.generation ++ (f.next-auth ++ (f.next-generation ++ (f.working ++
+unfoldable pub used_body : Fields → List ℕ
+used_body f =
+    bytes_of 2 1 ++ (bytes_of 2 f.number ++ (bytes_of 2 f.method_number ++ (bytes_of 2 f.valid_mask ++ (bytes_of 4 f.tag ++
+    (bytes_of 4 f.step_number ++ (f.name ++ (f.auth ++ (f.generation ++ (f.next_auth_lem ++ (f.next_generation ++ (f.working ++
     bytes_of 2 f.keeper)))))))))))
 
-unfoldable pub usedRecord : Fields → List ℕ
-usedRecord f = seal (patch blank 0 (usedBody f))
+unfoldable pub used_record : Fields → List ℕ
+used_record f = seal (patch blank 0 (used_body f))
 
 -- a key that is asked for; zeros at a sharer, which has none of its own
-abbrev pub ownKey : ℕ → List ℕ → List ℕ
-ownKey k key = pick (eqb k 0) key (replicate 20 0)
+abbrev pub own_key : ℕ → List ℕ → List ℕ
+own_key k key = pick (eqb k 0) key (replicate 20 0)
 
 -- a unit as it is built: mask 0, step 0, the rest as asked, no next pair and no working key; a sharer has no keys
 abbrev pub built : ℕ → ℕ → ℕ → List ℕ → List ℕ → List ℕ → ℕ → Fields
 built u m t id auth gen k =
     record {
       number = u;
-      method-number = m;
-      valid-mask = 0;
+      method_number = m;
+      valid_mask = 0;
       tag = t;
-      step-number = 0;
+      step_number = 0;
       name = id;
-      auth = ownKey k auth;
-      generation = ownKey k gen;
-      next-auth = replicate 20 0;
-      next-generation = replicate 20 0;
+      auth = own_key k auth;
+      generation = own_key k gen;
+      next_auth_lem = replicate 20 0;
+      next_generation = replicate 20 0;
       working = replicate 320 0;
       keeper = k;
     }

@@ -1,11 +1,11 @@
 // The fields of a unit's record (document 01, "Records of 512 bytes", Unit; 02, K4): where each stands, how it is read and how written.
 ghost use Rattle.std.specs.Prelude.{◌≡◌, ◌++◌, ◌+◌, ◌≤◌, ◌<◌, ◌/◌, ◌%◌, ◌^◌, eqb, length};
 ghost use Rattle.wire.specs.Bytes.{bytes_of, patch};
-ghost use Rattle.units.specs.Unit.{method, mask, policyTag, step, identifier, authKey, genKey, nextAuthKey, nextGenKey, keeperField};
-ghost use Rattle.units.specs.Unit.{isValid, workingKey, withMethod, withMask, with_tag, withStep, withPair, withNextPair};
-ghost use Rattle.units.specs.Unit.{withWorkingKey, withoutNextAndWorking};
+ghost use Rattle.units.specs.Unit.{method, mask, policy_tag, step, identifier, auth_key_of, gen_key_of, next_auth_key, next_gen_key, keeper_field};
+ghost use Rattle.units.specs.Unit.{is_valid, working_key, with_method, with_mask, with_tag, with_step, with_pair, with_next_pair};
+ghost use Rattle.units.specs.Unit.{with_working_key, without_next_and_working};
 ghost use Rattle.seal.specs.Seal.{blank};
-ghost use Rattle.units.specs.Fields.{usedRecord, ownKey, built};
+ghost use Rattle.units.specs.Fields.{used_record, own_key, built};
 
 use model::{KeyVersion, UnitNo};
 
@@ -56,7 +56,7 @@ pub fn mask_of(rec: &[u8]) -> u32
 
 // The policy access tag.
 pub fn tag_of(rec: &[u8]) -> u32
-    ensures { result ≡ policyTag rec.now }
+    ensures { result ≡ policy_tag rec.now }
 {
     wire::be32(rec, TAG)
 }
@@ -69,7 +69,7 @@ pub fn step_of(rec: &[u8]) -> u32
 
 // Zero for own keys, or one more than the number of the unit that keeps them.
 pub fn keeper_field_of(rec: &[u8]) -> u32
-    ensures { result ≡ keeperField rec.now }
+    ensures { result ≡ keeper_field rec.now }
 {
     wire::be16(rec, KEEPER) as u32
 }
@@ -84,28 +84,28 @@ pub fn identifier_of(rec: &[u8]) -> &[u8]
 // The master keys, and the next pair of them.
 pub fn auth_key_of(rec: &[u8]) -> [u8; 20]
     requires { length rec.now ≡ 512 }
-    ensures { result ≡ authKey rec.now }
+    ensures { result ≡ auth_key_of rec.now }
 {
     wire::bytes20(rec, AUTH_KEY)
 }
 
 pub fn gen_key_of(rec: &[u8]) -> [u8; 20]
     requires { length rec.now ≡ 512 }
-    ensures { result ≡ genKey rec.now }
+    ensures { result ≡ gen_key_of rec.now }
 {
     wire::bytes20(rec, GEN_KEY)
 }
 
 pub fn next_auth_key_of(rec: &[u8]) -> [u8; 20]
     requires { length rec.now ≡ 512 }
-    ensures { result ≡ nextAuthKey rec.now }
+    ensures { result ≡ next_auth_key rec.now }
 {
     wire::bytes20(rec, NEXT_AUTH_KEY)
 }
 
 pub fn next_gen_key_of(rec: &[u8]) -> [u8; 20]
     requires { length rec.now ≡ 512 }
-    ensures { result ≡ nextGenKey rec.now }
+    ensures { result ≡ next_gen_key rec.now }
 {
     wire::bytes20(rec, NEXT_GEN_KEY)
 }
@@ -129,7 +129,7 @@ pub struct Key {
 // The working key of a version.
 pub fn working_key_of(rec: &[u8], version: KeyVersion) -> Key
     requires { (length rec.now ≡ 512) × (version.0 < 16) }
-    ensures { (result.valid ≡ isValid version.0 rec.now) × (result.bytes ≡ workingKey version.0 rec.now) }
+    ensures { (result.valid ≡ is_valid version.0 rec.now) × (result.bytes ≡ working_key version.0 rec.now) }
 {
     let v = version.0;
     let valid = has_bit(mask_of(rec), v);
@@ -165,14 +165,14 @@ fn put_keys(rec: &mut [u8], a: usize, first: [u8; 20], second: [u8; 20])
 
 pub fn set_method(rec: &mut [u8], m: u32)
     requires { length rec.old ≡ 512 }
-    ensures { rec.new ≡ withMethod m rec.old }
+    ensures { rec.new ≡ with_method m rec.old }
 {
     put2(rec, METHOD, m);
 }
 
 pub fn set_mask(rec: &mut [u8], m: u32)
     requires { length rec.old ≡ 512 }
-    ensures { rec.new ≡ withMask m rec.old }
+    ensures { rec.new ≡ with_mask m rec.old }
 {
     put2(rec, MASK, m);
 }
@@ -186,7 +186,7 @@ pub fn set_tag(rec: &mut [u8], t: u32)
 
 pub fn set_step(rec: &mut [u8], s: u32)
     requires { length rec.old ≡ 512 }
-    ensures { rec.new ≡ withStep s rec.old }
+    ensures { rec.new ≡ with_step s rec.old }
 {
     put4(rec, STEP, s);
 }
@@ -194,21 +194,21 @@ pub fn set_step(rec: &mut [u8], s: u32)
 // The pair of master keys, and the next pair.
 pub fn set_pair(rec: &mut [u8], auth: [u8; 20], generation: [u8; 20])
     requires { length rec.old ≡ 512 }
-    ensures { rec.new ≡ withPair «auth» «generation» rec.old }
+    ensures { rec.new ≡ with_pair «auth» «generation» rec.old }
 {
     put_keys(rec, AUTH_KEY, auth, generation);
 }
 
 pub fn set_next_pair(rec: &mut [u8], auth: [u8; 20], generation: [u8; 20])
     requires { length rec.old ≡ 512 }
-    ensures { rec.new ≡ withNextPair «auth» «generation» rec.old }
+    ensures { rec.new ≡ with_next_pair «auth» «generation» rec.old }
 {
     put_keys(rec, NEXT_AUTH_KEY, auth, generation);
 }
 
 pub fn set_working_key(rec: &mut [u8], version: KeyVersion, key: [u8; 20])
     requires { (length rec.old ≡ 512) × (version.0 < 16) }
-    ensures { rec.new ≡ withWorkingKey version.0 «key» rec.old }
+    ensures { rec.new ≡ with_working_key version.0 «key» rec.old }
 {
     let v = version.0 as usize;
     wire::put(rec, WORKING_KEYS + 20 * v, &key);
@@ -217,14 +217,14 @@ pub fn set_working_key(rec: &mut [u8], version: KeyVersion, key: [u8; 20])
 // The next pair and all working keys, which stand one behind the other.
 pub fn clear_next_and_working(rec: &mut [u8])
     requires { length rec.old ≡ 512 }
-    ensures { rec.new ≡ withoutNextAndWorking rec.old }
+    ensures { rec.new ≡ without_next_and_working rec.old }
 {
     seal::clear(&mut rec[NEXT_AUTH_KEY..KEEPER]);
 }
 
 // A key that is asked for; zeros at a sharer, which has none of its own.
 fn own_key(keeper: u32, key: [u8; 20]) -> [u8; 20]
-    ensures { result ≡ ownKey keeper «key» }
+    ensures { result ≡ own_key keeper «key» }
 {
     if keeper == 0 { key } else { [0u8; 20] }
 }
@@ -232,7 +232,7 @@ fn own_key(keeper: u32, key: [u8; 20]) -> [u8; 20]
 // The pair of a unit that is built.
 fn set_own_pair(rec: &mut [u8], keeper: u32, auth_key: [u8; 20], gen_key: [u8; 20])
     requires { length rec.old ≡ 512 }
-    ensures { rec.new ≡ withPair (ownKey keeper auth_key) (ownKey keeper gen_key) rec.old }
+    ensures { rec.new ≡ with_pair (own_key keeper auth_key) (own_key keeper gen_key) rec.old }
 {
     let auth = own_key(keeper, auth_key);
     let generation = own_key(keeper, gen_key);
@@ -266,7 +266,7 @@ pub fn write_built(
     keeper: u32,
 )
     requires { length rec.old ≡ 512 }
-    ensures { rec.new ≡ usedRecord (built unit.0 method tag id auth_key gen_key keeper) }
+    ensures { rec.new ≡ used_record (built unit.0 method tag id auth_key gen_key keeper) }
 {
     write_numbers(rec, unit, method, tag);
     wire::put(rec, IDENTIFIER, &id);

@@ -3,7 +3,7 @@ mod fields;
 
 ghost use Rattle.std.specs.Prelude.{◌≡◌, ◌<◌, length};
 ghost use Rattle.units.specs.declared.UnitState.TheVariants.{Used};
-ghost use Rattle.units.specs.Unit.{keysZero, noKeys, keeperShape, usedShape, unitStateOf, unit_at, keeperOf, keySetOf, isUsed, keepsKeys, unitState};
+ghost use Rattle.units.specs.Unit.{keys_zero, no_keys, keeper_shape, used_shape, unit_state_of, unit_at, keeper_of, key_set_of, is_used, keeps_keys, unit_state};
 
 use fields::END;
 pub use fields::{
@@ -23,7 +23,7 @@ pub enum UnitState {
 
 // Is each working key zero that the mask does not call valid?
 fn keys_zero(rec: &[u8]) -> bool
-    ensures { result ≡ keysZero 16 rec.now }
+    ensures { result ≡ keys_zero 16 rec.now }
 {
     let mask = mask_of(rec);
     let mut ok = true;
@@ -38,7 +38,7 @@ fn keys_zero(rec: &[u8]) -> bool
 
 // Are mask, step and all key bytes zero?
 fn has_no_keys(rec: &[u8]) -> bool
-    ensures { result ≡ noKeys rec.now }
+    ensures { result ≡ no_keys rec.now }
 {
     let keys = wire::are_zeros(rec, AUTH_KEY, 400);
     choice::and(mask_of(rec) == 0, choice::and(step_of(rec) == 0, keys))
@@ -46,7 +46,7 @@ fn has_no_keys(rec: &[u8]) -> bool
 
 // Has it own keys, or a keeper of 0 to 7 and none?
 fn keeper_shape(rec: &[u8]) -> bool
-    ensures { result ≡ keeperShape rec.now }
+    ensures { result ≡ keeper_shape rec.now }
 {
     let field = keeper_field_of(rec);
     if field == 0 {
@@ -57,7 +57,7 @@ fn keeper_shape(rec: &[u8]) -> bool
 
 // Has the record the shape of a used one at its place?
 fn used_shape(rec: &[u8], place: UnitNo) -> bool
-    ensures { result ≡ usedShape place.0 rec.now }
+    ensures { result ≡ used_shape place.0 rec.now }
 {
     let layout = wire::be16(rec, LAYOUT) == 1;
     let number = wire::be16(rec, NUMBER) as u32 == place.0;
@@ -79,7 +79,7 @@ fn used_shape(rec: &[u8], place: UnitNo) -> bool
 // the compiler knows, so that it makes the looks for zeros wide.
 pub fn state_of(rec: &[u8], place: UnitNo) -> UnitState
     requires { length rec.now ≡ 512 }
-    ensures { result ≡ unitStateOf place.0 rec.now }
+    ensures { result ≡ unit_state_of place.0 rec.now }
 {
     let all = &rec[LAYOUT..END];
     if seal::is_blank(all) {
@@ -102,7 +102,7 @@ pub fn record_of(units: &[u8], unit: UnitNo) -> &[u8]
 }
 
 fn is_used(s: UnitState) -> bool
-    ensures { result ≡ isUsed s }
+    ensures { result ≡ is_used s }
 {
     match s {
         UnitState::Unused => false,
@@ -114,7 +114,7 @@ fn is_used(s: UnitState) -> bool
 // May the unit keep keys? The field is looked at first, so that a record that names itself is not hashed twice.
 pub fn keeps_keys(units: &[u8], unit: UnitNo) -> bool
     requires { (length units.now ≡ 4096) × (unit.0 < 8) }
-    ensures { result ≡ keepsKeys units.now unit.0 }
+    ensures { result ≡ keeps_keys units.now unit.0 }
 {
     let rec = record_of(units, unit);
     if keeper_field_of(rec) == 0 {
@@ -126,7 +126,7 @@ pub fn keeps_keys(units: &[u8], unit: UnitNo) -> bool
 // The state of a unit's record: by its own bytes, and a sharer's by its keeper's too.
 pub fn unit_state(units: &[u8], unit: UnitNo) -> UnitState
     requires { (length units.now ≡ 4096) × (unit.0 < 8) }
-    ensures { result ≡ unitState units.now unit.0 }
+    ensures { result ≡ unit_state units.now unit.0 }
 {
     let rec = record_of(units, unit);
     let state = state_of(rec, unit);
@@ -145,8 +145,8 @@ pub fn unit_state(units: &[u8], unit: UnitNo) -> UnitState
 
 // The unit whose record keeps a used unit's keys, mask and step: itself, or the one that its field names.
 pub fn keeper_of(units: &[u8], unit: UnitNo) -> UnitNo
-    requires { (length units.now ≡ 4096) × (unit.0 < 8) × (unitState units.now unit.0 ≡ Used) }
-    ensures { (result.0 ≡ keeperOf units.now unit.0) × (result.0 < 8) }
+    requires { (length units.now ≡ 4096) × (unit.0 < 8) × (unit_state units.now unit.0 ≡ Used) }
+    ensures { (result.0 ≡ keeper_of units.now unit.0) × (result.0 < 8) }
 {
     let field = keeper_field_of(record_of(units, unit));
     if field == 0 {
@@ -157,8 +157,8 @@ pub fn keeper_of(units: &[u8], unit: UnitNo) -> UnitNo
 
 // The key set of a used unit: the record of its keeper.
 pub fn keys_of(units: &[u8], unit: UnitNo) -> &[u8]
-    requires { (length units.now ≡ 4096) × (unit.0 < 8) × (unitState units.now unit.0 ≡ Used) }
-    ensures { result.now ≡ keySetOf units.now unit.0 }
+    requires { (length units.now ≡ 4096) × (unit.0 < 8) × (unit_state units.now unit.0 ≡ Used) }
+    ensures { result.now ≡ key_set_of units.now unit.0 }
 {
     record_of(units, keeper_of(units, unit))
 }

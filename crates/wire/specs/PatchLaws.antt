@@ -10,35 +10,35 @@ use Rattle.std.proofs.lemmas.Bool.{eqb-false}
 use Rattle.std.proofs.Math.Seq.{paste, take_at, take-length, drop-drop, get_or-append-add, get_or-take, get_or-drop}
 use Rattle.wire.specs.Bytes.{part, patch}
 
-pub length-patch : (xs : List ℕ) (a : ℕ) (ys : List ℕ) → a + length ys ≤ length xs → length (patch xs a ys) ≡ length xs
+pub length_patch : (xs : List ℕ) (a : ℕ) (ys : List ℕ) → a + length ys ≤ length xs → length (patch xs a ys) ≡ length xs
 unfolding patch
-length-patch xs a ys h = simp (length-append, length-take, length-drop) (omega arith)
+length_patch xs a ys h = simp (length-append, length-take, length-drop) (omega arith)
 
 -- a copy of all of ys
-pub patch-paste : (xs : List ℕ) (a : ℕ) (ys : List ℕ) (n : ℕ) → n ≡ length ys → paste xs a ys n ≡ patch xs a ys
+pub patch_paste : (xs : List ℕ) (a : ℕ) (ys : List ℕ) (n : ℕ) → n ≡ length ys → paste xs a ys n ≡ patch xs a ys
 unfolding patch
-patch-paste xs a ys n e = rw (e, take-length ys, append_assoc (take a xs) ys, drop-drop (length ys) a xs)
+patch_paste xs a ys n e = rw (e, take-length ys, append_assoc (take a xs) ys, drop-drop (length ys) a xs)
 
 -- a patch of no bytes, and one of all
-pub patch-none : (xs : List ℕ) (a : ℕ) → patch xs a [] ≡ xs
+pub patch_none : (xs : List ℕ) (a : ℕ) → patch xs a [] ≡ xs
 unfolding patch
-patch-none xs a = take-append-drop a xs
+patch_none xs a = take-append-drop a xs
 
-pub patch-all : (xs ys : List ℕ) → length xs ≤ length ys → patch xs 0 ys ≡ ys
+pub patch_all : (xs ys : List ℕ) → length xs ≤ length ys → patch xs 0 ys ≡ ys
 unfolding patch
-patch-all xs ys h = rw (drop_of_length-le xs h) (append-nil ys)
+patch_all xs ys h = rw (drop_of_length-le xs h) (append-nil ys)
 
 -- the n bytes from a on were lent, as `&mut xs[a..a + n]`, and came back as ys
-pub patch-lent : (xs : List ℕ) (a n : ℕ) (ys zs : List ℕ) → a + n ≤ length xs → length ys ≡ length (take (a + n - a) (drop a xs)) → ys ≡ zs
+pub patch_lent : (xs : List ℕ) (a n : ℕ) (ys zs : List ℕ) → a + n ≤ length xs → length ys ≡ length (take (a + n - a) (drop a xs)) → ys ≡ zs
     → take a xs ++ (ys ++ drop (a + n - a) (drop a xs)) ≡ patch xs a zs
 unfolding patch
-patch-lent xs a n ys zs h k e =
+patch_lent xs a n ys zs h k e =
     let el : length ys ≡ a + n - a = simp (length-take, length-drop) at k ∙ omega arith in
     rw (← el, e)
 
 -- the n bytes from a on, as `&l[a..a + n]` lends them
-pub lent-part : (l : List ℕ) (a n : ℕ) → take (a + n - a) (drop a l) ≡ part a n l
-lent-part l a n = rw (add-sub_cancel_left a n)
+pub lent_part : (l : List ℕ) (a n : ℕ) → take (a + n - a) (drop a l) ≡ part a n l
+lent_part l a n = rw (add-sub_cancel_left a n)
 
 -- two parts, one behind the other, make one
 pub part_join : (a n m : ℕ) (l xs ys : List ℕ) → xs ≡ part a n l → ys ≡ part (a + n) m l → xs ++ ys ≡ part a (n + m) l
@@ -52,9 +52,9 @@ parts_same a n m l k e f =
     sym (part_join a n m l (part a n l) (part (a + n) m l) refl refl) ∙ part_join a n m k (part a n l) (part (a + n) m l) e f
 
 -- what starts with one list, then another, has the one as its first part, with the other behind it
-pub part-next : (a n : ℕ) (l xs ys zs : List ℕ) → length xs ≡ n → drop a l ≡ (xs ++ ys) ++ zs
+pub part_next : (a n : ℕ) (l xs ys zs : List ℕ) → length xs ≡ n → drop a l ≡ (xs ++ ys) ++ zs
     → (part a n l ≡ xs) × (drop (a + n) l ≡ ys ++ zs)
-part-next a n l xs ys zs k e =
+part_next a n l xs ys zs k e =
     let d : drop a l ≡ xs ++ (ys ++ zs) = e ∙ append_assoc xs ys zs in (
       ap (take n) d ∙ take_at xs (ys ++ zs) n k,
       sym (drop-drop n a l) ∙ ap (drop n) d ∙ drop_at xs (ys ++ zs) n k,
@@ -85,21 +85,21 @@ module _ (xs : List ℕ) (a : ℕ) (ys : List ℕ) (fits : a + length ys ≤ len
       ∙ get_or-drop a xs (length ys + j) 0
 
   -- a byte outside, and one inside
-  pub at-outside : (i : ℕ) → (i < a) ⊎ (a + length ys ≤ i) → get_or (patch xs a ys) i 0 ≡ get_or xs i 0
-  at-outside i (inl h) = at_before i h
-  at-outside i (inr h) =
+  pub at_outside : (i : ℕ) → (i < a) ⊎ (a + length ys ≤ i) → get_or (patch xs a ys) i 0 ≡ get_or xs i 0
+  at_outside i (inl h) = at_before i h
+  at_outside i (inr h) =
       let e : a + (length ys + (i - (a + length ys))) ≡ i = omega arith in
       rw e at (at_after (i - (a + length ys)))
 
-  pub at-inside : (i : ℕ) → i < length ys → get_or (patch xs a ys) (a + i) 0 ≡ get_or ys i 0
-  at-inside i h = at_in i h
+  pub at_inside : (i : ℕ) → i < length ys → get_or (patch xs a ys) (a + i) 0 ≡ get_or ys i 0
+  at_inside i h = at_in i h
 
   -- a part outside is as it was
-  pub part-outside : (b n : ℕ) → (b + n ≤ a) ⊎ (a + length ys ≤ b) → part b n (patch xs a ys) ≡ part b n xs
-  part-outside b n apart =
-      ext_get_or 0 (part b n (patch xs a ys)) (part b n xs) (simp (length-take, length-drop, length-patch xs a ys fits))
+  pub part_outside : (b n : ℕ) → (b + n ≤ a) ⊎ (a + length ys ≤ b) → part b n (patch xs a ys) ≡ part b n xs
+  part_outside b n apart =
+      ext_get_or 0 (part b n (patch xs a ys)) (part b n xs) (simp (length-take, length-drop, length_patch xs a ys fits))
       (λ i h. let k : i < n = small i h in
-      get_or-take n (drop b (patch xs a ys)) i 0 k ∙ get_or-drop b (patch xs a ys) i 0 ∙ at-outside (b + i) (out i k)
+      get_or-take n (drop b (patch xs a ys)) i 0 k ∙ get_or-drop b (patch xs a ys) i 0 ∙ at_outside (b + i) (out i k)
       ∙ sym (get_or-take n (drop b xs) i 0 k ∙ get_or-drop b xs i 0))
     where
       small : (i : ℕ) → i < length (part b n (patch xs a ys)) → i < n
@@ -109,15 +109,15 @@ module _ (xs : List ℕ) (a : ℕ) (ys : List ℕ) (fits : a + length ys ≤ len
       out i k = ⊎_elim (λ h. inl (omega arith)) (λ h. inr (omega arith)) apart
 
   -- a part inside is that part of the patch
-  pub part-inside : (b n : ℕ) → b + n ≤ length ys → part (a + b) n (patch xs a ys) ≡ part b n ys
-  part-inside b n h =
+  pub part_inside : (b n : ℕ) → b + n ≤ length ys → part (a + b) n (patch xs a ys) ≡ part b n ys
+  part_inside b n h =
       ext_get_or 0 (part (a + b) n (patch xs a ys)) (part b n ys) lens
       (λ i k. let g : i < n = small i k in
       get_or-take n (drop (a + b) (patch xs a ys)) i 0 g ∙ get_or-drop (a + b) (patch xs a ys) i 0
       ∙ rw (add_assoc a b i) (at_in (b + i) (omega arith)) ∙ sym (get_or-take n (drop b ys) i 0 g ∙ get_or-drop b ys i 0))
     where
       lens : length (part (a + b) n (patch xs a ys)) ≡ length (part b n ys)
-      lens = simp (length-take, length-drop, length-patch xs a ys fits) (omega arith)
+      lens = simp (length-take, length-drop, length_patch xs a ys fits) (omega arith)
 
       small : (i : ℕ) → i < length (part (a + b) n (patch xs a ys)) → i < n
       small i k = let g = simp length-take at k in omega arith
@@ -128,9 +128,9 @@ module _ (xs : List ℕ) (a : ℕ) (ys : List ℕ) (fits : a + length ys ≤ len
   part_same = ap (λ (l : List ℕ). take (length ys) l) (drop_at (take a xs) _ a front) ∙ take_at ys _ (length ys) refl
 
   -- a second patch, right behind the first, makes one of the two
-  pub patch-join : (b : ℕ) (zs : List ℕ) → b ≡ a + length ys → patch (patch xs a ys) b zs ≡ patch xs a (ys ++ zs)
+  pub patch_join : (b : ℕ) (zs : List ℕ) → b ≡ a + length ys → patch (patch xs a ys) b zs ≡ patch xs a (ys ++ zs)
   unfolding patch
-  patch-join b zs e =
+  patch_join b zs e =
       let p : List ℕ = take a xs in
       let r : List ℕ = drop (length ys) (drop a xs) in
       let lp : length (p ++ ys) ≡ b = length-append p ys ∙ ap (λ (n : ℕ). n + length ys) front ∙ sym e in
@@ -145,10 +145,10 @@ module _ (xs : List ℕ) (a : ℕ) (ys : List ℕ) (fits : a + length ys ≤ len
       ∙ ap (λ (l : List ℕ). p ++ l) (sym (append_assoc ys zs (drop (length (ys ++ zs)) (drop a xs))))
 
 -- a second patch over the first, as long as it
-pub patch-over : (xs : List ℕ) (a : ℕ) (ys zs : List ℕ) → length ys ≡ length zs → a + length ys ≤ length xs
+pub patch_over : (xs : List ℕ) (a : ℕ) (ys zs : List ℕ) → length ys ≡ length zs → a + length ys ≤ length xs
     → patch (patch xs a ys) a zs ≡ patch xs a zs
 unfolding patch
-patch-over xs a ys zs e fits =
+patch_over xs a ys zs e fits =
     let p : List ℕ = take a xs in
     let r : List ℕ = drop (length ys) (drop a xs) in
     let lp : length p ≡ a = length-take-le a xs (omega arith) in
@@ -162,46 +162,46 @@ module _ (xs : List ℕ) (a : ℕ) (ys : List ℕ) (b : ℕ) (zs : List ℕ) (ap
   first_fits = omega arith
 
   second_fits : b + length zs ≤ length (patch xs a ys)
-  second_fits = rw (length-patch xs a ys first_fits) fits
+  second_fits = rw (length_patch xs a ys first_fits) fits
 
   swapped_fits : a + length ys ≤ length (patch xs b zs)
-  swapped_fits = rw (length-patch xs b zs fits) first_fits
+  swapped_fits = rw (length_patch xs b zs fits) first_fits
 
   -- the byte at i: below the first, in it, between them, in the second, above it
-  byte-same : (i : ℕ) (p q r s : Bool) → ltb i a ≡ p → ltb i (a + length ys) ≡ q → ltb i b ≡ r → ltb i (b + length zs) ≡ s
+  byte_same : (i : ℕ) (p q r s : Bool) → ltb i a ≡ p → ltb i (a + length ys) ≡ q → ltb i b ≡ r → ltb i (b + length zs) ≡ s
       → get_or (patch (patch xs a ys) b zs) i 0 ≡ get_or (patch (patch xs b zs) a ys) i 0
-  byte-same i true q r s ep eq er es =
+  byte_same i true q r s ep eq er es =
       let h = ltb-true i a ep in
-      at-outside (patch xs a ys) b zs second_fits i (inl (omega arith)) ∙ at-outside xs a ys first_fits i (inl h)
-      ∙ sym (at-outside (patch xs b zs) a ys swapped_fits i (inl h) ∙ at-outside xs b zs fits i (inl (omega arith)))
-  byte-same i false true r s ep eq er es =
+      at_outside (patch xs a ys) b zs second_fits i (inl (omega arith)) ∙ at_outside xs a ys first_fits i (inl h)
+      ∙ sym (at_outside (patch xs b zs) a ys swapped_fits i (inl h) ∙ at_outside xs b zs fits i (inl (omega arith)))
+  byte_same i false true r s ep eq er es =
       let h : a ≤ i = ltb-false i a ep in
       let k : i < a + length ys = ltb-true i (a + length ys) eq in
       let e : a + (i - a) ≡ i = omega arith in
-      at-outside (patch xs a ys) b zs second_fits i (inl (omega arith)) ∙ rw e at (at-inside xs a ys first_fits (i - a) (omega arith))
-      ∙ sym (rw e at (at-inside (patch xs b zs) a ys swapped_fits (i - a) (omega arith)))
-  byte-same i false false true s ep eq er es =
+      at_outside (patch xs a ys) b zs second_fits i (inl (omega arith)) ∙ rw e at (at_inside xs a ys first_fits (i - a) (omega arith))
+      ∙ sym (rw e at (at_inside (patch xs b zs) a ys swapped_fits (i - a) (omega arith)))
+  byte_same i false false true s ep eq er es =
       let h : a + length ys ≤ i = ltb-false i (a + length ys) eq in
       let k : i < b = ltb-true i b er in
-      at-outside (patch xs a ys) b zs second_fits i (inl k) ∙ at-outside xs a ys first_fits i (inr h)
-      ∙ sym (at-outside (patch xs b zs) a ys swapped_fits i (inr h) ∙ at-outside xs b zs fits i (inl k))
-  byte-same i false false false true ep eq er es =
+      at_outside (patch xs a ys) b zs second_fits i (inl k) ∙ at_outside xs a ys first_fits i (inr h)
+      ∙ sym (at_outside (patch xs b zs) a ys swapped_fits i (inr h) ∙ at_outside xs b zs fits i (inl k))
+  byte_same i false false false true ep eq er es =
       let h : b ≤ i = ltb-false i b er in
       let k : i < b + length zs = ltb-true i (b + length zs) es in
       let e : b + (i - b) ≡ i = omega arith in
-      rw e at (at-inside (patch xs a ys) b zs second_fits (i - b) (omega arith))
-      ∙ sym (at-outside (patch xs b zs) a ys swapped_fits i (inr (omega arith)) ∙ rw e at (at-inside xs b zs fits (i - b) (omega arith)))
-  byte-same i false false false false ep eq er es =
+      rw e at (at_inside (patch xs a ys) b zs second_fits (i - b) (omega arith))
+      ∙ sym (at_outside (patch xs b zs) a ys swapped_fits i (inr (omega arith)) ∙ rw e at (at_inside xs b zs fits (i - b) (omega arith)))
+  byte_same i false false false false ep eq er es =
       let h : b + length zs ≤ i = ltb-false i (b + length zs) es in
-      at-outside (patch xs a ys) b zs second_fits i (inr h) ∙ at-outside xs a ys first_fits i (inr (omega arith))
-      ∙ sym (at-outside (patch xs b zs) a ys swapped_fits i (inr (omega arith)) ∙ at-outside xs b zs fits i (inr h))
+      at_outside (patch xs a ys) b zs second_fits i (inr h) ∙ at_outside xs a ys first_fits i (inr (omega arith))
+      ∙ sym (at_outside (patch xs b zs) a ys swapped_fits i (inr (omega arith)) ∙ at_outside xs b zs fits i (inr h))
 
-  pub patch-swap : patch (patch xs a ys) b zs ≡ patch (patch xs b zs) a ys
-  patch-swap =
+  pub patch_swap : patch (patch xs a ys) b zs ≡ patch (patch xs b zs) a ys
+  patch_swap =
       ext_get_or 0 (patch (patch xs a ys) b zs) (patch (patch xs b zs) a ys)
-      (length-patch (patch xs a ys) b zs second_fits ∙ length-patch xs a ys first_fits
-      ∙ sym (length-patch (patch xs b zs) a ys swapped_fits ∙ length-patch xs b zs fits))
-      (λ i h. byte-same i (ltb i a) (ltb i (a + length ys)) (ltb i b) (ltb i (b + length zs)) refl refl refl refl)
+      (length_patch (patch xs a ys) b zs second_fits ∙ length_patch xs a ys first_fits
+      ∙ sym (length_patch (patch xs b zs) a ys swapped_fits ∙ length_patch xs b zs fits))
+      (λ i h. byte_same i (ltb i a) (ltb i (a + length ys)) (ltb i b) (ltb i (b + length zs)) refl refl refl refl)
 
 -- ---- tables of records of 512 bytes
 
@@ -210,8 +210,8 @@ module _ (t : List ℕ) (i : ℕ) (r : List ℕ) (full : length r ≡ 512) (fits
   enough = rw full fits
 
   -- a record that is put at place i stands there
-  pub record-here : part (i * 512) 512 (patch t (i * 512) r) ≡ r
-  record-here = ap (λ (n : ℕ). part (i * 512) n (patch t (i * 512) r)) (sym full) ∙ part_same t (i * 512) r enough
+  pub record_here : part (i * 512) 512 (patch t (i * 512) r) ≡ r
+  record_here = ap (λ (n : ℕ). part (i * 512) n (patch t (i * 512) r)) (sym full) ∙ part_same t (i * 512) r enough
 
   apart : (j : ℕ) → (i ≡ j → ⊥) → (b c : Bool) → ltb j i ≡ b → ltb i j ≡ c → (j * 512 + 512 ≤ i * 512) ⊎ (i * 512 + length r ≤ j * 512)
   apart j ne true c e f = let h : j < i = ltb-true j i e in inl (omega arith)
@@ -222,29 +222,29 @@ module _ (t : List ℕ) (i : ℕ) (r : List ℕ) (full : length r ≡ 512) (fits
       absurd (ne (omega arith))
 
   -- and every other record is as it was
-  pub record-other : (j : ℕ) → (i ≡ j → ⊥) → part (j * 512) 512 (patch t (i * 512) r) ≡ part (j * 512) 512 t
-  record-other j ne = part-outside t (i * 512) r enough (j * 512) 512 (apart j ne (ltb j i) (ltb i j) refl refl)
+  pub record_other : (j : ℕ) → (i ≡ j → ⊥) → part (j * 512) 512 (patch t (i * 512) r) ≡ part (j * 512) 512 t
+  record_other j ne = part_outside t (i * 512) r enough (j * 512) 512 (apart j ne (ltb j i) (ltb i j) refl refl)
 
-  pub record-length : length (patch t (i * 512) r) ≡ length t
-  record-length = length-patch t (i * 512) r enough
+  pub record_length : length (patch t (i * 512) r) ≡ length t
+  record_length = length_patch t (i * 512) r enough
 
   -- two records at different places, in either order
-  pub record-swap : (j : ℕ) (q : List ℕ) → (i ≡ j → ⊥) → length q ≡ 512 → j * 512 + 512 ≤ length t
+  pub record_swap : (j : ℕ) (q : List ℕ) → (i ≡ j → ⊥) → length q ≡ 512 → j * 512 + 512 ≤ length t
       → patch (patch t (i * 512) r) (j * 512) q ≡ patch (patch t (j * 512) q) (i * 512) r
-  record-swap j q ne long room = by_place (ltb i j) refl
+  record_swap j q ne long room = by_place (ltb i j) refl
     where
       by_place : (b : Bool) → ltb i j ≡ b → patch (patch t (i * 512) r) (j * 512) q ≡ patch (patch t (j * 512) q) (i * 512) r
       by_place true e =
           let h : i < j = ltb-true i j e in
-          patch-swap t (i * 512) r (j * 512) q (omega arith) (omega arith)
+          patch_swap t (i * 512) r (j * 512) q (omega arith) (omega arith)
       by_place false e =
           let h : j ≤ i = ltb-false i j e in
           let k : j < i = lower h in
-          sym (patch-swap t (j * 512) q (i * 512) r (omega arith) (omega arith))
+          sym (patch_swap t (j * 512) q (i * 512) r (omega arith) (omega arith))
         where
           lower : j ≤ i → j < i
-          lower h = by-same (eqb i j) refl
+          lower h = by_same (eqb i j) refl
             where
-              by-same : (c : Bool) → eqb i j ≡ c → j < i
-              by-same true f = absurd (ne (eqb-true i j f))
-              by-same false f = let n = eqb-false i j f in omega arith
+              by_same : (c : Bool) → eqb i j ≡ c → j < i
+              by_same true f = absurd (ne (eqb-true i j f))
+              by_same false f = let n = eqb-false i j f in omega arith

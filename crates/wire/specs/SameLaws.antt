@@ -25,9 +25,9 @@ same_true (x ∷ xs) (y ∷ ys) e =
     ap₂ (λ (z : ℕ) (zs : List ℕ). z ∷ zs) (eqb-true x y p.0) (same_true xs ys p.1)
 
 -- a test that is true exactly where the lists are equal is `same`
-pub same-is : (t : Bool) (xs ys : List ℕ) → (t ≡ true → xs ≡ ys) → (xs ≡ ys → t ≡ true) → t ≡ same xs ys
-same-is true xs ys e f = sym (ap (same xs) (sym (e refl)) ∙ same_refl xs)
-same-is false xs ys e f = other (same xs ys) refl
+pub same_is : (t : Bool) (xs ys : List ℕ) → (t ≡ true → xs ≡ ys) → (xs ≡ ys → t ≡ true) → t ≡ same xs ys
+same_is true xs ys e f = sym (ap (same xs) (sym (e refl)) ∙ same_refl xs)
+same_is false xs ys e f = other (same xs ys) refl
   where
     other : (s : Bool) → same xs ys ≡ s → false ≡ same xs ys
     other true q = f (same_true xs ys q) ∙ sym q
@@ -35,19 +35,19 @@ same-is false xs ys e f = other (same xs ys) refl
 
 -- ---- differences
 
-pub or-none : (a b : ℕ) → bit_or a b ≡ 0 → (a ≡ 0) × (b ≡ 0)
-or-none a b e = (omega (arith, or_add_and a b, and_le_l a b, and_le_r a b), omega (arith, or_add_and a b, and_le_l a b, and_le_r a b))
+pub or_none : (a b : ℕ) → bit_or a b ≡ 0 → (a ≡ 0) × (b ≡ 0)
+or_none a b e = (omega (arith, or_add_and a b, and_le_l a b, and_le_r a b), omega (arith, or_add_and a b, and_le_l a b, and_le_r a b))
 
-xor-none : (a b : ℕ) → bit_xor a b ≡ 0 → a ≡ b
-xor-none a b e = omega (arith, xor_add_and a b, and_le_l a b, and_le_r a b)
+xor_none : (a b : ℕ) → bit_xor a b ≡ 0 → a ≡ b
+xor_none a b e = omega (arith, xor_add_and a b, and_le_l a b, and_le_r a b)
 
 -- the or d of the differences of the first i bytes is zero exactly where those bytes are the same
 pub record Differs (xs ys : List ℕ) (i d : ℕ) : Type 0 where
   pub none : d ≡ 0 → take i xs ≡ take i ys
   pub some : take i xs ≡ take i ys → d ≡ 0
 
-pub differs-zero : (xs ys : List ℕ) → Differs xs ys 0 0
-differs-zero xs ys = record { none = λ e. refl; some = λ e. refl }
+pub differs_zero : (xs ys : List ℕ) → Differs xs ys 0 0
+differs_zero xs ys = record { none = λ e. refl; some = λ e. refl }
 
 module _ (xs ys : List ℕ) (i d : ℕ) (hx : i < length xs) (hy : i < length ys) (k : Differs xs ys i d) where
   x : ℕ
@@ -72,8 +72,8 @@ module _ (xs ys : List ℕ) (i d : ℕ) (hx : i < length xs) (hy : i < length ys
     where
       none_more : bit_or d (bit_xor x y) ≡ 0 → take (i + 1) xs ≡ take (i + 1) ys
       none_more e =
-          let p = or-none d (bit_xor x y) e in
-          longer xs hx ∙ ap₂ (λ (l : List ℕ) (z : ℕ). l ++ (z ∷ [])) (k.none p.0) (xor-none x y p.1) ∙ sym (longer ys hy)
+          let p = or_none d (bit_xor x y) e in
+          longer xs hx ∙ ap₂ (λ (l : List ℕ) (z : ℕ). l ++ (z ∷ [])) (k.none p.0) (xor_none x y p.1) ∙ sym (longer ys hy)
 
       some_more : take (i + 1) xs ≡ take (i + 1) ys → bit_or d (bit_xor x y) ≡ 0
       some_more e =
@@ -81,26 +81,26 @@ module _ (xs ys : List ℕ) (i d : ℕ) (hx : i < length xs) (hy : i < length ys
           let ed : d ≡ 0 = k.some (sym (front xs hx) ∙ ap (take i) e ∙ front ys hy) in
           ap₂ bit_or ed (ap (λ (z : ℕ). bit_xor z y) ez ∙ xor_self y)
 
-pub differs-done : (xs ys : List ℕ) (i d : ℕ) → length xs ≤ i → length ys ≤ i → Differs xs ys i d → eqb d 0 ≡ same xs ys
-differs-done xs ys i d hx hy k =
-    same-is (eqb d 0) xs ys
+pub differs_done : (xs ys : List ℕ) (i d : ℕ) → length xs ≤ i → length ys ≤ i → Differs xs ys i d → eqb d 0 ≡ same xs ys
+differs_done xs ys i d hx hy k =
+    same_is (eqb d 0) xs ys
     (λ e. sym (take_all i xs hx) ∙ k.none (eqb-true d 0 e) ∙ take_all i ys hy)
     (λ e. eq-eqb d 0 (k.some (ap (take i) e)))
 
 -- ---- parts of two longer lists
 
 module _ (s t : List ℕ) (a b n : ℕ) (hs : a + n ≤ length s) (ht : b + n ≤ length t) where
-  part-full : (l : List ℕ) (k : ℕ) → k + n ≤ length l → length (part k n l) ≡ n
-  part-full l k h = length-take-le n (drop k l) (rw length-drop (omega arith))
+  part_full : (l : List ℕ) (k : ℕ) → k + n ≤ length l → length (part k n l) ≡ n
+  part_full l k h = length-take-le n (drop k l) (rw length-drop (omega arith))
 
-  part-byte : (l : List ℕ) (k i : ℕ) → i < n → get_or (part k n l) i 0 ≡ get_or l (k + i) 0
-  part-byte l k i h = get_or-take n (drop k l) i 0 h ∙ get_or-drop k l i 0
+  part_byte : (l : List ℕ) (k i : ℕ) → i < n → get_or (part k n l) i 0 ≡ get_or l (k + i) 0
+  part_byte l k i h = get_or-take n (drop k l) i 0 h ∙ get_or-drop k l i 0
 
   pub parts_more : (i d : ℕ) → i < n → Differs (part a n s) (part b n t) i d
       → Differs (part a n s) (part b n t) (i + 1) (bit_or d (bit_xor (get_or s (a + i) 0) (get_or t (b + i) 0)))
   parts_more i d h k =
-      rw (← part-byte s a i h, ← part-byte t b i h)
-      (differs_more (part a n s) (part b n t) i d (omega (arith, part-full s a hs)) (omega (arith, part-full t b ht)) k)
+      rw (← part_byte s a i h, ← part_byte t b i h)
+      (differs_more (part a n s) (part b n t) i d (omega (arith, part_full s a hs)) (omega (arith, part_full t b ht)) k)
 
-  pub parts-done : (i d : ℕ) → n ≤ i → Differs (part a n s) (part b n t) i d → eqb d 0 ≡ same (part a n s) (part b n t)
-  parts-done i d h k = differs-done (part a n s) (part b n t) i d (omega (arith, part-full s a hs)) (omega (arith, part-full t b ht)) k
+  pub parts_done : (i d : ℕ) → n ≤ i → Differs (part a n s) (part b n t) i d → eqb d 0 ≡ same (part a n s) (part b n t)
+  parts_done i d h k = differs_done (part a n s) (part b n t) i d (omega (arith, part_full s a hs)) (omega (arith, part_full t b ht)) k

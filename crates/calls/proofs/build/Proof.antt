@@ -3,24 +3,24 @@ use borrow.Author.Rules.{rules}
 use borrow.Author.Tests.{not-true, not-false}
 use Prim.Native.Nat.{◌*◌}
 use native.Mathlib.Omega.{arith}
-use Rattle.wire.specs.PatchLaws.{patch-lent}
-use Rattle.calls.specs.BuildLaws.{build-length, build-unit, build-method, build-unkept, build-good}
+use Rattle.wire.specs.PatchLaws.{patch_lent}
+use Rattle.calls.specs.BuildLaws.{build_length, build_unit, build_method, build_unkept, build_good}
 use Rattle.calls.proofs.build.Statement.{statement}
 use Rattle.calls.proofs.build.Tie as tie
 
 returns : tie.Need-returns
-returns c = build-length _ _ _ _ _ _ _ _ c.if1.true
+returns c = build_length _ _ _ _ _ _ _ _ c.if1.true
 
 returns-2 : tie.Need-returns-2
 returns-2 c =
     let c1 = c.before in
-    build-unit _ _ _ _ _ _ _ _ c1.if1.false c.if2.true
+    build_unit _ _ _ _ _ _ _ _ c1.if1.false c.if2.true
 
 returns-3 : tie.Need-returns-3
 returns-3 c =
     let c1 = c.before in
     let c2 = c1.before in
-    build-method _ _ _ _ _ _ _ _ c2.if1.false c1.if2.false c.if3.true
+    build_method _ _ _ _ _ _ _ _ c2.if1.false c1.if2.false c.if3.true
 
 right-keeper-requires : tie.Need-right-keeper-requires
 right-keeper-requires c κs = search rules
@@ -33,7 +33,7 @@ returns-4 c =
     let k = c.before in
     let c3 = k.before.before in
     let c2 = c3.before in
-    build-unkept _ _ _ _ _ _ _ _ c2.before.if1.false c2.if2.false c3.if3.false _ k.right-keeper.ensures
+    build_unkept _ _ _ _ _ _ _ _ c2.before.if1.false c2.if2.false c3.if3.false _ k.right-keeper.ensures
     (not-true _ c.if4.true)
 
 cast-a : tie.Need-overflow-cast-a
@@ -70,8 +70,8 @@ returns-5 c =
     let c1 = c2.before in
     let a = c1.before.before.args in
     let w = b.write-built in
-    let table = patch-lent a.units.now (a.unit.0 * 512) 512 _ _ (omega arith) w.auto.0 w.ensures in
-    build-good _ _ _ _ _ _ _ _ c1.if1.false c2.if2.false c3.if3.false _ k.right-keeper.ensures (not-false _ c4.if4.false)
+    let table = patch_lent a.units.now (a.unit.0 * 512) 512 _ _ (omega arith) w.auto.0 w.ensures in
+    build_good _ _ _ _ _ _ _ _ c1.if1.false c2.if2.false c3.if3.false _ k.right-keeper.ensures (not-false _ c4.if4.false)
     _ table
 
 pub build-spec : {M : Type 1} → statement M

@@ -5,7 +5,7 @@ use native.Mathlib.Omega.{arith}
 use lib.ListN.{length}
 use borrow.Fn.Kinds.{In}
 use borrow.Fn.PlainCycle.{Measures, is, falls, and}
-use Rattle.extension.specs.ListLaws.{ends_there, full-there, goes_on}
+use Rattle.extension.specs.ListLaws.{ends_there, full_there, goes_on}
 use Rattle.extension.proofs.list_from.Reads as list-from
 use Rattle.extension.proofs.list_from.Kinds as list-from-kinds
 use Rattle.extension.proofs.+list_from.Lts-list_from as list-from-lts
@@ -37,7 +37,7 @@ list-from-returns-2 : (t : ℕ) → list-from-lts.Need-returns-2 (
   list-from-below t,
   list-from.Post,
 ) (list-from-at t) list-from.Post
-list-from-returns-2 t c = full-there _ _ _ _ c.before.if1.false c.if2.true
+list-from-returns-2 t c = full_there _ _ _ _ c.before.if1.false c.if2.true
 
 list-from-descriptor-at-requires : (t : ℕ) → list-from-lts.Need-descriptor-at-requires (
   descriptor-at-reads.Asked,

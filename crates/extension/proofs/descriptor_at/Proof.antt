@@ -4,7 +4,7 @@ use mathlib.Core.Path.{refl, ◌∙◌, ap}
 use Prim.Native.Nat.{◌+◌, ◌≤◌}
 use native.Mathlib.Omega.{arith}
 use lib.ListN.{length}
-use Rattle.extension.specs.ListLaws.{cut-there, more-there}
+use Rattle.extension.specs.ListLaws.{cut_there, more_there}
 use Rattle.extension.proofs.descriptor_at.Statement.{statement}
 use Rattle.extension.proofs.descriptor_at.Tie as tie
 
@@ -26,7 +26,7 @@ add-if1 c = search rules
 returns : tie.Need-returns
 returns c =
     let start = c.before.before.before in
-    (start.requires, omega arith, cut-there _ _ _ c.before.at.ensures _ _ start.requires refl c.if1.true)
+    (start.requires, omega arith, cut_there _ _ _ c.before.at.ensures _ _ start.requires refl c.if1.true)
 
 add_body : tie.Need-overflow-add-body
 add_body c = search rules
@@ -44,7 +44,7 @@ returns-2 : tie.Need-returns-2
 returns-2 c =
     let start = c.before.before.before.before.before in
     let fits : start.args.at + 2 + c.before.before.before.at.result ≤ length start.args.c.now = omega arith in
-    (omega arith, fits, more-there _ _ _ c.before.before.before.at.ensures _ _ fits (c.one_more.ensures _ fits))
+    (omega arith, fits, more_there _ _ _ c.before.before.before.at.ensures _ _ fits (c.one_more.ensures _ fits))
 
 pub descriptor-at-spec : {M : Type 1} → statement M
 descriptor-at-spec =

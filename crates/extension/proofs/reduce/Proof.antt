@@ -6,18 +6,18 @@ use Prim.Native.Nat.{ℕ, ◌≤◌}
 use native.Mathlib.Omega.{arith}
 use lib.ListN.{length, get_or}
 use Rattle.wire.specs.Bytes.{patch}
-use Rattle.wire.specs.PatchLaws.{patch-none}
-use Rattle.model.specs.Codes.{cdbLen}
-use Rattle.model.specs.CodeLaws.{cdb-small}
+use Rattle.wire.specs.PatchLaws.{patch_none}
+use Rattle.model.specs.Codes.{cdb_len}
+use Rattle.model.specs.CodeLaws.{cdb_small}
 use Rattle.extension.specs.Extension.{reduced}
-use Rattle.extension.specs.ReducedLaws.{short_none, nothing-none, wrong-none, place-fits, place-reduced, place-length}
+use Rattle.extension.specs.ReducedLaws.{short_none, nothing_none, wrong_none, place_fits, place_reduced, place_length}
 use Rattle.extension.proofs.reduce.Statement.{statement}
 use Rattle.extension.proofs.reduce.Tie as tie
 
 -- nothing is laid where it can't be reduced
 none-laid : (c room : List ℕ) → reduced c ≡ [] → (◌≡◌ {A = ℕ} 0 (length (reduced c))) × (room ≡ patch room 0 (reduced c))
 none-laid c room e =
-    (sym (ap (λ (l : List ℕ). length l) e), sym (ap (λ (l : List ℕ). patch room 0 l) e ∙ patch-none room 0))
+    (sym (ap (λ (l : List ℕ). length l) e), sym (ap (λ (l : List ℕ). patch room 0 l) e ∙ patch_none room 0))
 
 at-requires : tie.Need-at-requires
 at-requires c κs = search rules
@@ -32,7 +32,7 @@ returns : tie.Need-returns
 returns c =
     let code = c.before in
     let start = code.before.before.before.before in
-    let cdb = code.cdb-len.ensures ∙ ap cdbLen code.before.at.ensures in
+    let cdb = code.cdb-len.ensures ∙ ap cdb_len code.before.at.ensures in
     none-laid _ _ (short_none start.args.c.now _ cdb c.if1.true)
 
 list-from-requires : tie.Need-list-from-requires
@@ -47,10 +47,10 @@ lay-requires c κs =
     let list = told.before.before in
     let code = list.before.before in
     let start = code.before.before.before.before in
-    let cdb = code.cdb-len.ensures ∙ ap cdbLen code.before.at.ensures in
+    let cdb = code.cdb-len.ensures ∙ ap cdb_len code.before.at.ensures in
     let long = list.before.if1.false in
-    let small : code.cdb-len.result ≤ 16 = omega (arith, cdb-small (get_or start.args.c.now 0 0), cdb) in
-    (small, long, place-fits start.args.c.now _ cdb _ long list.list-from.ensures _ told.carried.given.1, start.requires)
+    let small : code.cdb-len.result ≤ 16 = omega (arith, cdb_small (get_or start.args.c.now 0 0), cdb) in
+    (small, long, place_fits start.args.c.now _ cdb _ long list.list-from.ensures _ told.carried.given.1, start.requires)
 
 add-result : tie.Need-overflow-add-result
 add-result c = search rules
@@ -65,13 +65,13 @@ returns-2 c =
     let list = told.before.before in
     let code = list.before.before in
     let start = code.before.before.before.before in
-    let cdb = code.cdb-len.ensures ∙ ap cdbLen code.before.at.ensures in
+    let cdb = code.cdb-len.ensures ∙ ap cdb_len code.before.at.ensures in
     let long = list.before.if1.false in
     let there = told.carried.given.1 in (
-      place-length start.args.c.now _ cdb _ long list.list-from.ensures _ there,
+      place_length start.args.c.now _ cdb _ long list.list-from.ensures _ there,
       laid.lay.ensures
           ∙ ap (λ (l : List ℕ). patch start.args.room.now 0 l)
-          (sym (place-reduced start.args.c.now _ cdb _ long list.list-from.ensures _ there)),
+          (sym (place_reduced start.args.c.now _ cdb _ long list.list-from.ensures _ there)),
     )
 
 enum_told : tie.Need-enum-told
@@ -82,8 +82,8 @@ returns-3 c =
     let list = c.before.before in
     let code = list.before.before in
     let start = code.before.before.before.before in
-    let cdb = code.cdb-len.ensures ∙ ap cdbLen code.before.at.ensures in
-    none-laid _ _ (nothing-none start.args.c.now _ cdb _ list.before.if1.false list.list-from.ensures c.enum_told.given.1)
+    let cdb = code.cdb-len.ensures ∙ ap cdb_len code.before.at.ensures in
+    none-laid _ _ (nothing_none start.args.c.now _ cdb _ list.before.if1.false list.list-from.ensures c.enum_told.given.1)
 
 enum-told-2 : tie.Need-enum-told-2
 enum-told-2 c = search rules
@@ -93,8 +93,8 @@ returns-4 c =
     let list = c.before.before in
     let code = list.before.before in
     let start = code.before.before.before.before in
-    let cdb = code.cdb-len.ensures ∙ ap cdbLen code.before.at.ensures in
-    none-laid _ _ (wrong-none start.args.c.now _ cdb _ list.before.if1.false list.list-from.ensures c.enum-told2.given.1)
+    let cdb = code.cdb-len.ensures ∙ ap cdb_len code.before.at.ensures in
+    none-laid _ _ (wrong_none start.args.c.now _ cdb _ list.before.if1.false list.list-from.ensures c.enum-told2.given.1)
 
 pub reduce-spec : {M : Type 1} → statement M
 reduce-spec =

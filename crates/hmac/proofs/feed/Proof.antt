@@ -1,7 +1,7 @@
 -- The inner hash takes in the part.
-use Rattle.sha1.specs.Running.{Holds}
-use Rattle.hmac.specs.Hmac.{bySha1}
-use Rattle.hmac.specs.MacLaws.{mac-fed}
+use Rattle.fips180.specs.Running.{Holds}
+use Rattle.hmac.specs.Hmac.{by_sha1}
+use Rattle.hmac.specs.MacLaws.{mac_fed}
 use borrow.Author.Rules.{rules}
 use Rattle.hmac.proofs.feed.Statement.{statement}
 use Rattle.hmac.proofs.feed.Tie as tie
@@ -10,7 +10,7 @@ feed-requires : tie.Need-feed-requires
 feed-requires c κs = search rules
 
 returns : tie.Need-returns
-returns c = λ k m s. mac-fed bySha1 Holds s c.feed.ensures
+returns c = λ k m s. mac_fed by_sha1 Holds s c.feed.ensures
 
 pub feed-spec : {M : Type 1} → statement M
 feed-spec = tie.close (tie.spec feed-requires returns)

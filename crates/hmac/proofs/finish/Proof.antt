@@ -1,7 +1,7 @@
 -- The inner digest goes into the outer hash, whose digest is the result.
-use Rattle.sha1.specs.Running.{Holds}
-use Rattle.hmac.specs.Hmac.{bySha1}
-use Rattle.hmac.specs.MacLaws.{mac-finished}
+use Rattle.fips180.specs.Running.{Holds}
+use Rattle.hmac.specs.Hmac.{by_sha1}
+use Rattle.hmac.specs.MacLaws.{mac_finished}
 use borrow.Author.Rules.{rules}
 use Rattle.hmac.proofs.finish.Statement.{statement}
 use Rattle.hmac.proofs.finish.Tie as tie
@@ -20,7 +20,7 @@ finish-requires-2 c κs = search rules
 
 returns : tie.Need-returns
 returns c = λ k m s.
-    mac-finished bySha1 Holds s c.before.before.before.finish.ensures c.before.feed.ensures c.finish2.ensures
+    mac_finished by_sha1 Holds s c.before.before.before.finish.ensures c.before.feed.ensures c.finish2.ensures
 
 pub finish_spec : {M : Type 1} → statement M
 finish_spec =

@@ -6,7 +6,7 @@ use native.Mathlib.Omega.{arith}
 use borrow.Author.Rules.{rules}
 use lib.ListN.{length, take, drop, length-set}
 use Rattle.hmac.specs.Hmac.{masked}
-use Rattle.hmac.specs.KeyLaws.{masked-none, masked-more, masked-done}
+use Rattle.hmac.specs.KeyLaws.{masked_none, masked_more, masked_done}
 use Rattle.hmac.proofs.mask.Statement.{statement}
 use Rattle.hmac.proofs.mask.Tie as tie
 
@@ -17,7 +17,7 @@ abbrev decreases-loop : tie.decreases-loop
 decreases-loop pad b₀ i₀ b i = 64 - i
 
 loop-holds : tie.Need-loop-init invariant-loop decreases-loop
-loop-holds c = (omega arith, search rules, masked-none _ _)
+loop-holds c = (omega arith, search rules, masked_none _ _)
 
 array-read-b : tie.Need-array-read-b invariant-loop decreases-loop
 array-read-b c = search rules
@@ -35,13 +35,13 @@ loop-again : tie.Need-loop-preserved invariant-loop decreases-loop
 loop-again c = let a = c.before.before.args in
     let l = c.before.loop in
     let full : length a.k ≡ 64 = search rules in
-    (omega arith, simp length-set (omega arith), masked-more a.pad a.k l.b l.i (omega arith) l.invariant.2)
+    (omega arith, simp length-set (omega arith), masked_more a.pad a.k l.b l.i (omega arith) l.invariant.2)
 
 returns : tie.Need-returns invariant-loop decreases-loop
 returns c = let a = c.before.before.args in
     let l = c.before.loop in
     let full : length a.k ≡ 64 = search rules in
-    masked-done a.pad a.k l.b l.i (omega arith) l.invariant.2
+    masked_done a.pad a.k l.b l.i (omega arith) l.invariant.2
 
 pub mask-spec : {M : Type 1} → statement M
 mask-spec =

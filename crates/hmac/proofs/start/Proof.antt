@@ -1,9 +1,9 @@
 -- Each of the two hashes has taken in the masked key.
 use mathlib.Core.Path.{ap, ◌∙◌}
 use mathlib.Core.List.{[]}
-use Rattle.sha1.specs.Running.{Holds}
-use Rattle.hmac.specs.Hmac.{bySha1, ipad, opad, masked}
-use Rattle.hmac.specs.MacLaws.{mac-started}
+use Rattle.fips180.specs.Running.{Holds}
+use Rattle.hmac.specs.Hmac.{by_sha1, ipad, opad, masked}
+use Rattle.hmac.specs.MacLaws.{mac_started}
 use borrow.Author.Rules.{rules}
 use Rattle.hmac.proofs.start.Statement.{statement}
 use Rattle.hmac.proofs.start.Tie as tie
@@ -40,7 +40,7 @@ returns c =
     let c₁ = c.before.before.before in
     let c₂ = c₁.before.before.before in
     let ek = c₂.before.before.key-block.ensures in
-    mac-started bySha1 Holds
+    mac_started by_sha1 Holds
     (c₁.feed.ensures [] c₁.before.before.start.ensures) (c.feed2.ensures [] c.before.before.start2.ensures)
     (c₂.before.mask.ensures ∙ ap (masked ipad) ek) (c₂.mask2.ensures ∙ ap (masked opad) ek)
 

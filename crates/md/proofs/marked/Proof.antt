@@ -4,7 +4,7 @@ use Prim.Native.Nat.{◌-◌, ◌≤◌}
 use native.Mathlib.Omega.{arith}
 use lib.ListN.{length, length-set, replicate}
 use lib.Seq.{paste, paste-zero}
-use Rattle.md.specs.PaddingLaws.{copied_more, marked-law}
+use Rattle.md.specs.PaddingLaws.{copied_more, marked_law}
 use borrow.Author.Rules.{rules}
 use Rattle.md.proofs.marked.Statement.{statement}
 use Rattle.md.proofs.marked.Tie as tie
@@ -43,7 +43,7 @@ returns : tie.Need-returns invariant-loop decreases-loop
 returns c =
     let l = c.before.loop in
     let t = c.before.before.args.tail.now in
-    marked-law t l.b 128 l.j (omega arith) (omega arith) l.invariant.2
+    marked_law t l.b 128 l.j (omega arith) (omega arith) l.invariant.2
 
 pub marked-spec : {M : Type 1} → statement M
 marked-spec =

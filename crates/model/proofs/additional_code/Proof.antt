@@ -2,38 +2,38 @@
 use mathlib.Core.Logic.{⊎_elim}
 use mathlib.Core.List.{[], ◌∷◌}
 use borrow.Author.Tests.{ne_eqb}
-use Rattle.model.specs.AmongLaws.{one-of-not}
-use Rattle.model.specs.Refusal.{additionalCode}
+use Rattle.model.specs.AmongLaws.{one_of_not}
+use Rattle.model.specs.Refusal.{additional_code}
 use Rattle.model.proofs.additional_code.Statement.{statement}
 use Rattle.model.proofs.additional_code.Tie as tie
 
 returns : tie.Need-returns
-unfolding additionalCode
+unfolding additional_code
 returns c = rw c.match.keys1
 
 returns-2 : tie.Need-returns-2
-unfolding additionalCode
+unfolding additional_code
 returns-2 c = rw c.match.keys2
 
 returns-3 : tie.Need-returns-3
-unfolding additionalCode
+unfolding additional_code
 returns-3 c = rw c.match.keys3
 
 returns-4 : tie.Need-returns-4
-unfolding additionalCode
+unfolding additional_code
 returns-4 c = ⊎_elim (λ e. rw e) (λ e. rw e) c.match.keys4
 
 returns-5 : tie.Need-returns-5
-unfolding additionalCode
+unfolding additional_code
 returns-5 c = rw c.match.keys5
 
 returns-6 : tie.Need-returns-6
-unfolding additionalCode
+unfolding additional_code
 returns-6 c =
     let none = c.match.rest in
     simp (
       ne_eqb _ _ none.1,
-      one-of-not (16 ∷ 18 ∷ []) _ none.0.1,
+      one_of_not (16 ∷ 18 ∷ []) _ none.0.1,
       ne_eqb _ _ none.0.0.1,
       ne_eqb _ _ none.0.0.0.1,
       ne_eqb _ _ none.0.0.0.0.1,

@@ -1,66 +1,66 @@
 -- Each arm is in its range, above those before it or between them.
 use native.Mathlib.Omega.{arith}
-use Rattle.model.specs.Codes.{cdbLen}
-use Rattle.model.specs.CodeLaws.{in-range, below-range, above-range}
+use Rattle.model.specs.Codes.{cdb_len}
+use Rattle.model.specs.CodeLaws.{in_range, below_range, above_range}
 use Rattle.model.proofs.cdb_len.Statement.{statement}
 use Rattle.model.proofs.cdb_len.Tie as tie
 
 returns : tie.Need-returns
-unfolding cdbLen
+unfolding cdb_len
 returns c =
     let k = c.before.args.code in
-    simp (in-range 0x00 0x1F k (omega arith) (omega arith))
+    simp (in_range 0x00 0x1F k (omega arith) (omega arith))
 
 returns-2 : tie.Need-returns-2
-unfolding cdbLen
+unfolding cdb_len
 returns-2 c =
     let k = c.before.before.args.code in
     simp (
-      above-range 0x00 0x1F k (omega arith),
-      in-range 0x20 0x5F k (omega arith) (omega arith),
+      above_range 0x00 0x1F k (omega arith),
+      in_range 0x20 0x5F k (omega arith) (omega arith),
     )
 
 returns-3 : tie.Need-returns-3
-unfolding cdbLen
+unfolding cdb_len
 returns-3 c =
     let k = c.before.before.before.before.args.code in
     simp (
-      above-range 0x00 0x1F k (omega arith),
-      above-range 0x20 0x5F k (omega arith),
-      in-range 0x80 0x9F k (omega arith) (omega arith),
+      above_range 0x00 0x1F k (omega arith),
+      above_range 0x20 0x5F k (omega arith),
+      in_range 0x80 0x9F k (omega arith) (omega arith),
     )
 
 returns-4 : tie.Need-returns-4
-unfolding cdbLen
+unfolding cdb_len
 returns-4 c =
     let k = c.before.before.before.before.before.args.code in
     simp (
-      above-range 0x00 0x1F k (omega arith),
-      above-range 0x20 0x5F k (omega arith),
-      above-range 0x80 0x9F k (omega arith),
-      in-range 0xA0 0xBF k (omega arith) (omega arith),
+      above_range 0x00 0x1F k (omega arith),
+      above_range 0x20 0x5F k (omega arith),
+      above_range 0x80 0x9F k (omega arith),
+      in_range 0xA0 0xBF k (omega arith) (omega arith),
     )
 
 returns-5 : tie.Need-returns-5
-unfolding cdbLen
+unfolding cdb_len
 returns-5 c =
     let k = c.before.before.before.args.code in
     simp (
-      above-range 0x00 0x1F k (omega arith),
-      above-range 0x20 0x5F k (omega arith),
-      below-range 0x80 0x9F k (omega arith),
-      below-range 0xA0 0xBF k (omega arith),
+      above_range 0x00 0x1F k (omega arith),
+      above_range 0x20 0x5F k (omega arith),
+      below_range 0x80 0x9F k (omega arith),
+      below_range 0xA0 0xBF k (omega arith),
     )
 
 returns-6 : tie.Need-returns-6
-unfolding cdbLen
+unfolding cdb_len
 returns-6 c =
     let k = c.before.before.before.before.before.args.code in
     simp (
-      above-range 0x00 0x1F k (omega arith),
-      above-range 0x20 0x5F k (omega arith),
-      above-range 0x80 0x9F k (omega arith),
-      above-range 0xA0 0xBF k (omega arith),
+      above_range 0x00 0x1F k (omega arith),
+      above_range 0x20 0x5F k (omega arith),
+      above_range 0x80 0x9F k (omega arith),
+      above_range 0xA0 0xBF k (omega arith),
     )
 
 pub cdb-len-spec : {M : Type 1} → statement M

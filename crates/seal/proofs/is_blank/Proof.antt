@@ -2,7 +2,7 @@
 use mathlib.Core.Path.{◌∙◌, sym, ap}
 use mathlib.Core.Bool.{true, false}
 use Rattle.wire.specs.Bytes.{same}
-use Rattle.seal.specs.BlankLaws.{blank-where}
+use Rattle.seal.specs.BlankLaws.{blank_where}
 use borrow.Author.Rules.{rules}
 use Rattle.seal.proofs.is_blank.Statement.{statement}
 use Rattle.seal.proofs.is_blank.Tie as tie
@@ -24,15 +24,15 @@ returns c =
     let k = c.before.before in
     let p = k.before in
     c.are-zeros.ensures
-    ∙ blank-where _ p.blank-check.result true p.before.before.before.requires p.blank-check.ensures
-    (sym (k.same20.ensures ∙ ap (λ x. same x p.blank-check.result) p.before.bytes20.ensures) ∙ c.before.if1.true)
+    ∙ blank_where _ p.blank_check_lem.result true p.before.before.before.requires p.blank_check_lem.ensures
+    (sym (k.same20.ensures ∙ ap (λ x. same x p.blank_check_lem.result) p.before.bytes20.ensures) ∙ c.before.if1.true)
 
 returns-2 : tie.Need-returns-2
 returns-2 c =
     let k = c.before in
     let p = k.before in
-    blank-where _ p.blank-check.result false p.before.before.before.requires p.blank-check.ensures
-    (sym (k.same20.ensures ∙ ap (λ x. same x p.blank-check.result) p.before.bytes20.ensures) ∙ c.if1.false)
+    blank_where _ p.blank_check_lem.result false p.before.before.before.requires p.blank_check_lem.ensures
+    (sym (k.same20.ensures ∙ ap (λ x. same x p.blank_check_lem.result) p.before.bytes20.ensures) ∙ c.if1.false)
 
 pub is-blank-spec : {M : Type 1} → statement M
 is-blank-spec =

@@ -3,7 +3,7 @@ use mathlib.Core.Path.{◌∙◌, ap}
 use Prim.Native.Nat.{ℕ}
 use lib.ListN.{replicate}
 use Rattle.wire.specs.Bytes.{patch}
-use Rattle.seal.specs.BlankLaws.{blank-made}
+use Rattle.seal.specs.BlankLaws.{blank_made}
 use borrow.Author.Rules.{rules}
 use Rattle.seal.proofs.make_blank.Statement.{statement}
 use Rattle.seal.proofs.make_blank.Tie as tie
@@ -27,7 +27,7 @@ returns : tie.Need-returns
 returns c =
     let p = c.before.before.put in
     let k = c.before.before.before.before in
-    p.ensures ∙ ap (patch _ 492) k.blank-check.ensures ∙ blank-made _ (k.before.before.before.before.clear.ensures ∙ ap (λ (n : ℕ). replicate n 0) k.before.before.before.before.before.before.before.requires)
+    p.ensures ∙ ap (patch _ 492) k.blank_check_lem.ensures ∙ blank_made _ (k.before.before.before.before.clear.ensures ∙ ap (λ (n : ℕ). replicate n 0) k.before.before.before.before.before.before.before.requires)
 
 pub make-blank-spec : {M : Type 1} → statement M
 make-blank-spec =

@@ -3,9 +3,9 @@ use mathlib.Core.Path.{◌∙◌, ap}
 use Prim.Native.Nat.{ℕ}
 use native.Mathlib.Omega.{arith}
 use Rattle.wire.specs.Bytes.{part}
-use Rattle.wire.specs.PatchLaws.{lent-part}
-use Rattle.slots.specs.Slot.{slotCommand, commandLength}
-use Rattle.slots.specs.SlotLaws.{open-fits}
+use Rattle.wire.specs.PatchLaws.{lent_part}
+use Rattle.slots.specs.Slot.{slot_command, command_length}
+use Rattle.slots.specs.SlotLaws.{open_fits}
 use borrow.Author.Rules.{rules}
 use Rattle.slots.proofs.command_of.Statement.{statement}
 use Rattle.slots.proofs.command_of.Tie as tie
@@ -26,17 +26,17 @@ part-result-start : tie.Need-slice-bounds-result-start
 part-result-start c = search rules
 
 part-result-end : tie.Need-slice-bounds-result-end
-unfolding commandLength
+unfolding command_length
 part-result-end c =
     let s = c.before.before in
-    omega (arith, c.be16.ensures, (open-fits s.args.rec.now s.requires.1).0)
+    omega (arith, c.be16.ensures, (open_fits s.args.rec.now s.requires.1).0)
 
 returns : tie.Need-returns
-unfolding slotCommand commandLength
+unfolding slot_command command_length
 returns c =
     let l = c.before.before.before.args.rec.now in
     let k = c.before.be16 in
-    lent-part l 8 k.result ∙ ap (λ (n : ℕ). part 8 n l) k.ensures
+    lent_part l 8 k.result ∙ ap (λ (n : ℕ). part 8 n l) k.ensures
 
 pub command-of-spec : {M : Type 1} → statement M
 command-of-spec =

@@ -1,7 +1,7 @@
 -- One patch, of the blank record.
 use Prim.Native.Nat.{◌*◌}
 use native.Mathlib.Omega.{arith}
-use Rattle.wire.specs.PatchLaws.{patch-lent}
+use Rattle.wire.specs.PatchLaws.{patch_lent}
 use Rattle.slots.specs.Slot.{freed}
 use borrow.Author.Rules.{rules}
 use Rattle.slots.proofs.free.Statement.{statement}
@@ -36,7 +36,7 @@ unfolding freed
 returns c =
     let k = c.before.before in
     let g = k.before.before.before.before.args in
-    patch-lent g.slots.now (g.slot.0 * 512) 512 k.make-blank.new.0 _ (omega arith)
+    patch_lent g.slots.now (g.slot.0 * 512) 512 k.make-blank.new.0 _ (omega arith)
     k.make-blank.auto.0 k.make-blank.ensures
 
 pub free_spec : {M : Type 1} → statement M

@@ -1,6 +1,6 @@
 -- Four numbers of two bytes.
 use Rattle.wire.specs.Bytes.{bytes_of}
-use Rattle.slots.specs.Slot.{openHead}
+use Rattle.slots.specs.Slot.{open_head}
 use borrow.Author.Rules.{rules}
 use Rattle.slots.proofs.open_head.Statement.{statement}
 use Rattle.slots.proofs.open_head.Tie as tie
@@ -33,7 +33,7 @@ array-read-t25 : tie.Need-array-read-t25
 array-read-t25 c = search rules
 
 returns : tie.Need-returns
-unfolding openHead bytes_of
+unfolding open_head bytes_of
 returns c = rw (c.bytes23.ensures, c.before.bytes22.ensures, c.before.before.bytes2.ensures)
 
 pub open-head-spec : {M : Type 1} → statement M

@@ -1,5 +1,5 @@
 -- Each test is what its call ensures.
-use Rattle.slots.specs.Slot.{stateNumber, slotUnit, commandLength, tokenLength, openShape}
+use Rattle.slots.specs.Slot.{state_number, slot_unit, command_length, token_length, open_shape}
 use borrow.Author.Rules.{rules}
 use Rattle.slots.proofs.open_shape.Statement.{statement}
 use Rattle.slots.proofs.open_shape.Tie as tie
@@ -65,7 +65,7 @@ and-requires-7 : tie.Need-and-requires-7
 and-requires-7 c κs = search rules
 
 returns : tie.Need-returns
-unfolding openShape stateNumber slotUnit commandLength tokenLength
+unfolding open_shape state_number slot_unit command_length token_length
 returns c =
     let k = c.before.before.before.before.before.before in
     let t = k.before.before.before.before.before.before in
@@ -82,7 +82,7 @@ returns c =
       k.before.before.zero-past.ensures,
       k.before.before.before.and.ensures,
       k.before.before.before.before.legal-len.ensures,
-      k.before.before.before.before.before.data-out.ensures,
+      k.before.before.before.before.before.data_out_lem.ensures,
       t.right-token.ensures,
       t.before.be164.ensures,
       t.before.before.be163.ensures,

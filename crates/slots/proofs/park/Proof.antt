@@ -1,7 +1,7 @@
 -- One patch, of the record of an open slot.
 use Prim.Native.Nat.{◌*◌}
 use native.Mathlib.Omega.{arith}
-use Rattle.wire.specs.PatchLaws.{patch-lent}
+use Rattle.wire.specs.PatchLaws.{patch_lent}
 use Rattle.slots.specs.Slot.{parked}
 use borrow.Author.Rules.{rules}
 use Rattle.slots.proofs.park.Statement.{statement}
@@ -36,7 +36,7 @@ unfolding parked
 returns c =
     let k = c.before.before in
     let g = k.before.before.before.before.before.before.args in
-    patch-lent g.slots.now (g.slot.0 * 512) 512 k.write-open.new.0 _ (omega arith)
+    patch_lent g.slots.now (g.slot.0 * 512) 512 k.write-open.new.0 _ (omega arith)
     k.write-open.auto.0 k.write-open.ensures
 
 pub park-spec : {M : Type 1} → statement M

@@ -1,5 +1,5 @@
 -- Both bounds.
-use Rattle.slots.specs.Slot.{rightToken}
+use Rattle.slots.specs.Slot.{right_token}
 use borrow.Author.Rules.{rules}
 use Rattle.slots.proofs.right_token.Statement.{statement}
 use Rattle.slots.proofs.right_token.Tie as tie
@@ -8,7 +8,7 @@ and-requires : tie.Need-and-requires
 and-requires c κs = search rules
 
 returns : tie.Need-returns
-unfolding rightToken
+unfolding right_token
 returns c = c.and.ensures
 
 pub right-token-spec : {M : Type 1} → statement M

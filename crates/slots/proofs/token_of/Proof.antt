@@ -3,9 +3,9 @@ use mathlib.Core.Path.{◌∙◌, ap}
 use Prim.Native.Nat.{ℕ}
 use native.Mathlib.Omega.{arith}
 use Rattle.wire.specs.Bytes.{part}
-use Rattle.wire.specs.PatchLaws.{lent-part}
-use Rattle.slots.specs.Slot.{slotToken, tokenLength}
-use Rattle.slots.specs.SlotLaws.{open-fits}
+use Rattle.wire.specs.PatchLaws.{lent_part}
+use Rattle.slots.specs.Slot.{slot_token, token_length}
+use Rattle.slots.specs.SlotLaws.{open_fits}
 use borrow.Author.Rules.{rules}
 use Rattle.slots.proofs.token_of.Statement.{statement}
 use Rattle.slots.proofs.token_of.Tie as tie
@@ -26,17 +26,17 @@ part-result-start : tie.Need-slice-bounds-result-start
 part-result-start c = search rules
 
 part-result-end : tie.Need-slice-bounds-result-end
-unfolding tokenLength
+unfolding token_length
 part-result-end c =
     let s = c.before.before in
-    omega (arith, c.be16.ensures, (open-fits s.args.rec.now s.requires.1).1)
+    omega (arith, c.be16.ensures, (open_fits s.args.rec.now s.requires.1).1)
 
 returns : tie.Need-returns
-unfolding slotToken tokenLength
+unfolding slot_token token_length
 returns c =
     let l = c.before.before.before.args.rec.now in
     let k = c.before.be16 in
-    lent-part l 108 k.result ∙ ap (λ (n : ℕ). part 108 n l) k.ensures
+    lent_part l 108 k.result ∙ ap (λ (n : ℕ). part 108 n l) k.ensures
 
 pub token-of-spec : {M : Type 1} → statement M
 token-of-spec =

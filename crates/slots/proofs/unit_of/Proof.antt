@@ -1,5 +1,5 @@
 -- What is read is the field.
-use Rattle.slots.specs.Slot.{slotUnit}
+use Rattle.slots.specs.Slot.{slot_unit}
 use borrow.Author.Rules.{rules}
 use Rattle.slots.proofs.unit_of.Statement.{statement}
 use Rattle.slots.proofs.unit_of.Tie as tie
@@ -11,7 +11,7 @@ cast-t3 : tie.Need-overflow-cast-t3
 cast-t3 c = search rules
 
 returns : tie.Need-returns
-unfolding slotUnit
+unfolding slot_unit
 returns c = c.be16.ensures
 
 pub unit-of-spec : {M : Type 1} → statement M

@@ -1,5 +1,5 @@
 -- Zeros, three patches and the check.
-use Rattle.slots.specs.SlotLaws.{open-steps}
+use Rattle.slots.specs.SlotLaws.{open_steps}
 use borrow.Author.Rules.{rules}
 use Rattle.slots.proofs.write_open.Statement.{statement}
 use Rattle.slots.proofs.write_open.Tie as tie
@@ -43,7 +43,7 @@ returns c =
     let s5 = s4.before.before.before.before.before in
     let h = s5.before.before in
     let g = h.before.before.before.before in
-    open-steps g.args.unit.0 g.args.command.now g.args.token.now _ _ _ _ _ _ _ h.open-head.ensures
+    open_steps g.args.unit.0 g.args.command.now g.args.token.now _ _ _ _ _ _ _ h.open-head.ensures
     s5.clear.ensures g.requires.0 s4.put.ensures s3.put2.ensures s2.put3.ensures s1.seal-record.ensures
 
 pub write-open-spec : {M : Type 1} → statement M

@@ -1,7 +1,7 @@
 -- Nothing is left where the room is used up.
 use mathlib.Core.Path.{sym}
 use native.Mathlib.Omega.{arith}
-use Rattle.wire.specs.ZeroLaws.{zeros-none}
+use Rattle.wire.specs.ZeroLaws.{zeros_none}
 use borrow.Author.Rules.{rules}
 use Rattle.slots.proofs.zero_past.Statement.{statement}
 use Rattle.slots.proofs.zero_past.Tie as tie
@@ -19,7 +19,7 @@ returns : tie.Need-returns
 returns c = search rules
 
 returns-2 : tie.Need-returns-2
-returns-2 c = sym (zeros-none _ _ _ (omega arith))
+returns-2 c = sym (zeros_none _ _ _ (omega arith))
 
 pub zero-past-spec : {M : Type 1} → statement M
 zero-past-spec =

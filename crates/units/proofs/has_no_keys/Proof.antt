@@ -1,5 +1,5 @@
 -- Call by call as the definition has it.
-use Rattle.units.specs.Unit.{noKeys}
+use Rattle.units.specs.Unit.{no_keys}
 use borrow.Author.Rules.{rules}
 use Rattle.units.proofs.has_no_keys.Statement.{statement}
 use Rattle.units.proofs.has_no_keys.Tie as tie
@@ -20,7 +20,7 @@ and-requires-2 : tie.Need-and-requires-2
 and-requires-2 c κs = search rules
 
 returns : tie.Need-returns
-unfolding noKeys
+unfolding no_keys
 returns c =
     let k = c.before.before in
     simp (

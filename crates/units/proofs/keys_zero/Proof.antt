@@ -4,14 +4,14 @@ use Prim.Native.Nat.{ℕ, ◌/◌, ◌%◌, ◌^◌, ◌≤◌, ◌-◌}
 use native.Mathlib.Omega.{arith}
 use lib.Dec.{eqb}
 use Rattle.choice.specs.Choice.{both, either}
-use Rattle.units.specs.Unit.{keysZero, isValid, mask}
-use Rattle.units.specs.UnitLaws.{keys-zero, keys-more}
+use Rattle.units.specs.Unit.{keys_zero, is_valid, mask}
+use Rattle.units.specs.UnitLaws.{keys_zero_lem, keys_more}
 use borrow.Author.Rules.{rules}
 use Rattle.units.proofs.keys_zero.Statement.{statement}
 use Rattle.units.proofs.keys_zero.Tie as tie
 
 abbrev invariant-loop : tie.invariant-loop
-invariant-loop rec m ok₀ v₀ ok v = (v ≤ 16) × (m ≡ mask rec) × (ok ≡ keysZero v rec)
+invariant-loop rec m ok₀ v₀ ok v = (v ≤ 16) × (m ≡ mask rec) × (ok ≡ keys_zero v rec)
 
 abbrev decreases-loop : tie.decreases-loop
 decreases-loop rec m ok₀ v₀ ok v = 16 - v
@@ -20,7 +20,7 @@ mask-of-requires : tie.Need-mask-of-requires invariant-loop decreases-loop
 mask-of-requires c κs = search rules
 
 loop-holds : tie.Need-loop-init invariant-loop decreases-loop
-loop-holds c = (omega arith, c.mask-of.ensures, sym (keys-zero _))
+loop-holds c = (omega arith, c.mask-of.ensures, sym (keys_zero_lem _))
 
 cast-are-zeros : tie.Need-overflow-cast-are-zeros invariant-loop decreases-loop
 cast-are-zeros c = search rules
@@ -50,7 +50,7 @@ loop-less : tie.Need-loop-smaller invariant-loop decreases-loop
 loop-less c = search rules
 
 loop-again : tie.Need-loop-preserved invariant-loop decreases-loop
-unfolding isValid
+unfolding is_valid
 loop-again c =
     let c₁ = c.before.before.before in
     let l = c₁.before.before.loop in
@@ -61,7 +61,7 @@ loop-again c =
       c.and.ensures
           ∙ ap₂ both l.invariant.2
           (c.before.or.ensures ∙ ap₂ either bit c₁.are-zeros.ensures)
-          ∙ sym (keys-more v _),
+          ∙ sym (keys_more v _),
     )
 
 returns : tie.Need-returns invariant-loop decreases-loop

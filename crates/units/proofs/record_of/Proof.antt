@@ -1,6 +1,6 @@
 -- The 512 bytes at their place.
 use Prim.Native.Nat.{◌*◌}
-use Rattle.wire.specs.PatchLaws.{lent-part}
+use Rattle.wire.specs.PatchLaws.{lent_part}
 use borrow.Author.Rules.{rules}
 use Rattle.units.proofs.record_of.Statement.{statement}
 use Rattle.units.proofs.record_of.Tie as tie
@@ -25,7 +25,7 @@ part-result-end c = search rules
 
 returns : tie.Need-returns
 returns c = let a = c.before.before.args in
-    lent-part a.units.now (a.unit.0 * 512) 512
+    lent_part a.units.now (a.unit.0 * 512) 512
 
 pub record-of-spec : {M : Type 1} → statement M
 record-of-spec =

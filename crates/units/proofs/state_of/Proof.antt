@@ -7,9 +7,9 @@ use lib.ListN.{length, take, drop}
 use lib.Seq.{take_all}
 use Rattle.choice.specs.Choice.{both}
 use Rattle.wire.specs.Bytes.{same}
-use Rattle.seal.specs.Seal.{checked, blankRecord}
-use Rattle.units.specs.Unit.{usedShape}
-use Rattle.units.specs.UnitLaws.{state-unused, state-used, state-unsound}
+use Rattle.seal.specs.Seal.{checked, blank_record}
+use Rattle.units.specs.Unit.{used_shape}
+use Rattle.units.specs.UnitLaws.{state_unused, state_used, state_unsound}
 use borrow.Author.Rules.{rules}
 use Rattle.units.proofs.state_of.Statement.{statement}
 use Rattle.units.proofs.state_of.Tie as tie
@@ -32,8 +32,8 @@ all s = take_all 512 s.args.rec.now (omega (arith, s.requires))
 returns : tie.Need-returns
 returns c =
     let s = c.before.before.before.before in
-    let blank = ap (λ (l : List ℕ). same l blankRecord) (sym (all s)) ∙ sym c.before.is-blank.ensures ∙ c.if1.true in
-    state-unused s.args.place.0 s.args.rec.now s.requires blank
+    let blank = ap (λ (l : List ℕ). same l blank_record) (sym (all s)) ∙ sym c.before.is-blank.ensures ∙ c.if1.true in
+    state_unused s.args.place.0 s.args.rec.now s.requires blank
 
 used-shape-requires : tie.Need-used-shape-requires
 used-shape-requires c κs = search rules
@@ -49,20 +49,20 @@ returns-2 c =
     let c₁ = c.before.before.before.before in
     let s = c₁.before.before.before.before in
     let u = s.args.place.0 in
-    let blank = ap (λ (l : List ℕ). same l blankRecord) (sym (all s)) ∙ sym c₁.before.is-blank.ensures ∙ c₁.if1.false in
-    let shape = c.before.before.before.used-shape.ensures ∙ ap (usedShape u) (all s) in
+    let blank = ap (λ (l : List ℕ). same l blank_record) (sym (all s)) ∙ sym c₁.before.is-blank.ensures ∙ c₁.if1.false in
+    let shape = c.before.before.before.used-shape.ensures ∙ ap (used_shape u) (all s) in
     let check = c.before.before.is-checked.ensures ∙ ap checked (all s) in
-    state-used u s.args.rec.now s.requires blank (sym (c.before.and.ensures ∙ ap₂ both shape check) ∙ c.if2.true)
+    state_used u s.args.rec.now s.requires blank (sym (c.before.and.ensures ∙ ap₂ both shape check) ∙ c.if2.true)
 
 returns-3 : tie.Need-returns-3
 returns-3 c =
     let c₁ = c.before.before.before.before in
     let s = c₁.before.before.before.before in
     let u = s.args.place.0 in
-    let blank = ap (λ (l : List ℕ). same l blankRecord) (sym (all s)) ∙ sym c₁.before.is-blank.ensures ∙ c₁.if1.false in
-    let shape = c.before.before.before.used-shape.ensures ∙ ap (usedShape u) (all s) in
+    let blank = ap (λ (l : List ℕ). same l blank_record) (sym (all s)) ∙ sym c₁.before.is-blank.ensures ∙ c₁.if1.false in
+    let shape = c.before.before.before.used-shape.ensures ∙ ap (used_shape u) (all s) in
     let check = c.before.before.is-checked.ensures ∙ ap checked (all s) in
-    state-unsound u s.args.rec.now s.requires blank (sym (c.before.and.ensures ∙ ap₂ both shape check) ∙ c.if2.false)
+    state_unsound u s.args.rec.now s.requires blank (sym (c.before.and.ensures ∙ ap₂ both shape check) ∙ c.if2.false)
 
 pub state-of-spec : {M : Type 1} → statement M
 state-of-spec =

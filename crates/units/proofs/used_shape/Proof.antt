@@ -1,5 +1,5 @@
 -- Call by call as the definition has it.
-use Rattle.units.specs.Unit.{usedShape, layout, unitNumber, nextPairZero, unnamedZero}
+use Rattle.units.specs.Unit.{used_shape, layout, unit_number, next_pair_zero, unnamed_zero}
 use borrow.Author.Rules.{rules}
 use Rattle.units.proofs.used_shape.Statement.{statement}
 use Rattle.units.proofs.used_shape.Tie as tie
@@ -56,7 +56,7 @@ and-requires-7 : tie.Need-and-requires-7
 and-requires-7 c κs = search rules
 
 returns : tie.Need-returns
-unfolding usedShape layout unitNumber nextPairZero unnamedZero
+unfolding used_shape layout unit_number next_pair_zero unnamed_zero
 returns c =
     let s = c.before.before.before.before.before in
     let k = s.before.before.before in
@@ -68,7 +68,7 @@ returns c =
       c.before.before.before.and4.ensures,
       c.before.before.before.before.and3.ensures,
       s.and2.ensures,
-      s.before.keys-zero.ensures,
+      s.before.keys_zero_lem.ensures,
       s.before.before.and.ensures,
       k.are-zeros2.ensures,
       k.before.keeper-shape.ensures,

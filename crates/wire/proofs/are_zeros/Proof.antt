@@ -6,7 +6,7 @@ use native.Mathlib.Omega.{arith}
 use lib.Dec.{eqb}
 use Rattle.choice.specs.Choice.{both}
 use Rattle.wire.specs.Bytes.{zeros}
-use Rattle.wire.specs.ZeroLaws.{zeros-more, zeros-done}
+use Rattle.wire.specs.ZeroLaws.{zeros_more, zeros_done}
 use borrow.Author.Rules.{rules}
 use Rattle.wire.proofs.are_zeros.Statement.{statement}
 use Rattle.wire.proofs.are_zeros.Tie as tie
@@ -41,14 +41,14 @@ loop-again : tie.Need-loop-preserved invariant-loop decreases-loop
 loop-again c =
     let l = c.before.before.loop in
     let g = c.before.before.before.before.before.args in
-    (omega arith, zeros-more l.any l.i (g.a + g.n) g.s.now (omega arith) ∙ l.invariant.1)
+    (omega arith, zeros_more l.any l.i (g.a + g.n) g.s.now (omega arith) ∙ l.invariant.1)
 
 returns : tie.Need-returns invariant-loop decreases-loop
 returns c =
     let l = c.before.loop in
     let g = c.before.before.before.before.args in
     let h = c.before.before.least.ensures.2 in
-    zeros-done l.any l.i (g.a + g.n) g.s.now (⊎_elim (λ e. inl (omega arith)) (λ e. inr (omega arith)) h) ∙ l.invariant.1
+    zeros_done l.any l.i (g.a + g.n) g.s.now (⊎_elim (λ e. inl (omega arith)) (λ e. inr (omega arith)) h) ∙ l.invariant.1
 
 pub are-zeros-spec : {M : Type 1} → statement M
 are-zeros-spec =

@@ -1,7 +1,7 @@
 -- Two bytes, the high one first.
 use mathlib.Core.Path.{◌∙◌, sym, ap₂}
 use Prim.Native.Nat.{ℕ, ◌+◌, ◌*◌}
-use Rattle.wire.specs.NumberLaws.{number-two}
+use Rattle.wire.specs.NumberLaws.{number_two}
 use borrow.Author.Rules.{rules}
 use Rattle.wire.proofs.be16.Statement.{statement}
 use Rattle.wire.proofs.be16.Tie as tie
@@ -29,7 +29,7 @@ add-result c = search rules
 
 returns : tie.Need-returns
 returns c =
-    ap₂ (λ (x y : ℕ). x * 256 + y) c.before.at.ensures c.at2.ensures ∙ sym (number-two _ _)
+    ap₂ (λ (x y : ℕ). x * 256 + y) c.before.at.ensures c.at2.ensures ∙ sym (number_two _ _)
 
 pub be16-spec : {M : Type 1} → statement M
 be16-spec =

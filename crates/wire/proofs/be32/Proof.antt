@@ -1,7 +1,7 @@
 -- Two numbers of two bytes, the high one first.
 use mathlib.Core.Path.{◌∙◌, sym, ap₂}
 use Prim.Native.Nat.{ℕ, ◌+◌, ◌*◌}
-use Rattle.wire.specs.NumberLaws.{number-add}
+use Rattle.wire.specs.NumberLaws.{number_add}
 use borrow.Author.Rules.{rules}
 use Rattle.wire.proofs.be32.Statement.{statement}
 use Rattle.wire.proofs.be32.Tie as tie
@@ -29,7 +29,7 @@ add-result c = search rules
 
 returns : tie.Need-returns
 returns c =
-    ap₂ (λ (x y : ℕ). x * 65536 + y) c.before.be16.ensures c.be162.ensures ∙ sym (number-add 2 2 _ _)
+    ap₂ (λ (x y : ℕ). x * 65536 + y) c.before.be16.ensures c.be162.ensures ∙ sym (number_add 2 2 _ _)
 
 pub be32-spec : {M : Type 1} → statement M
 be32-spec =

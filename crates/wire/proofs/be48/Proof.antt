@@ -1,7 +1,7 @@
 -- Numbers of four and of two bytes, the high one first.
 use mathlib.Core.Path.{◌∙◌, sym, ap₂}
 use Prim.Native.Nat.{ℕ, ◌+◌, ◌*◌}
-use Rattle.wire.specs.NumberLaws.{number-add}
+use Rattle.wire.specs.NumberLaws.{number_add}
 use borrow.Author.Rules.{rules}
 use Rattle.wire.proofs.be48.Statement.{statement}
 use Rattle.wire.proofs.be48.Tie as tie
@@ -28,7 +28,7 @@ add-result : tie.Need-overflow-add-result
 add-result c = search rules
 
 returns : tie.Need-returns
-returns c = ap₂ (λ (x y : ℕ). x * 65536 + y) c.before.be32.ensures c.be16.ensures ∙ sym (number-add 4 2 _ _)
+returns c = ap₂ (λ (x y : ℕ). x * 65536 + y) c.before.be32.ensures c.be16.ensures ∙ sym (number_add 4 2 _ _)
 
 pub be48-spec : {M : Type 1} → statement M
 be48-spec =

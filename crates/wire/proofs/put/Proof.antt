@@ -5,7 +5,7 @@ use native.Mathlib.Omega.{arith}
 use native.Mathlib.Numerals.{add-one}
 use lib.ListN.{length}
 use lib.Seq.{paste, paste-zero, paste-suc, length-paste}
-use Rattle.wire.specs.PatchLaws.{patch-paste}
+use Rattle.wire.specs.PatchLaws.{patch_paste}
 use borrow.Author.Rules.{rules}
 use Rattle.wire.proofs.put.Statement.{statement}
 use Rattle.wire.proofs.put.Tie as tie
@@ -54,7 +54,7 @@ returns : tie.Need-returns invariant-loop decreases-loop
 returns c =
     let k = c.before in
     let g = k.before.args in
-    k.loop.invariant.1 ∙ patch-paste g.d.now g.a g.s.now k.loop.i (omega arith)
+    k.loop.invariant.1 ∙ patch_paste g.d.now g.a g.s.now k.loop.i (omega arith)
 
 pub put_spec : {M : Type 1} → statement M
 put_spec =

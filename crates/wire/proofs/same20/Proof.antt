@@ -4,7 +4,7 @@ use Prim.Native.Nat.{◌≤◌, ◌-◌}
 use native.Mathlib.Omega.{arith}
 use lib.ListN.{length}
 use borrow.Author.Rules.{rules}
-use Rattle.wire.specs.SameLaws.{Differs, differs-zero, differs_more, differs-done}
+use Rattle.wire.specs.SameLaws.{Differs, differs_zero, differs_more, differs_done}
 use Rattle.wire.proofs.same20.Statement.{statement}
 use Rattle.wire.proofs.same20.Tie as tie
 
@@ -15,7 +15,7 @@ abbrev decreases-loop : tie.decreases-loop
 decreases-loop a b different₀ seen₀ different seen = 20 - seen
 
 loop-holds : tie.Need-loop-init invariant-loop decreases-loop
-loop-holds c = (omega arith, search rules, search rules, differs-zero _ _)
+loop-holds c = (omega arith, search rules, search rules, differs_zero _ _)
 
 array-read-different : tie.Need-array-read-different invariant-loop decreases-loop
 array-read-different c = search rules
@@ -37,7 +37,7 @@ loop-again c =
 returns : tie.Need-returns invariant-loop decreases-loop
 returns c =
     let l = c.before.loop in
-    differs-done _ _ l.seen l.different (omega arith) (omega arith) l.invariant.3
+    differs_done _ _ l.seen l.different (omega arith) (omega arith) l.invariant.3
 
 pub same20-spec : {M : Type 1} → statement M
 same20-spec =

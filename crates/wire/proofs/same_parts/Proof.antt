@@ -3,7 +3,7 @@ use Prim.Native.Nat.{◌+◌, ◌≤◌, ◌-◌}
 use native.Mathlib.Omega.{arith}
 use lib.ListN.{length}
 use Rattle.wire.specs.Bytes.{part}
-use Rattle.wire.specs.SameLaws.{Differs, differs-zero, parts_more, parts-done}
+use Rattle.wire.specs.SameLaws.{Differs, differs_zero, parts_more, parts_done}
 use borrow.Author.Rules.{rules}
 use Rattle.wire.proofs.same_parts.Statement.{statement}
 use Rattle.wire.proofs.same_parts.Tie as tie
@@ -16,7 +16,7 @@ abbrev decreases-loop : tie.decreases-loop
 decreases-loop s a t b n different₀ i₀ different i = n - i
 
 loop-holds : tie.Need-loop-init invariant-loop decreases-loop
-loop-holds c = (omega arith, omega arith, omega arith, differs-zero _ _)
+loop-holds c = (omega arith, omega arith, omega arith, differs_zero _ _)
 
 add-different : tie.Need-overflow-add-different invariant-loop decreases-loop
 add-different c = search rules
@@ -44,7 +44,7 @@ loop-again c =
 returns : tie.Need-returns invariant-loop decreases-loop
 returns c =
     let l = c.before.loop in
-    parts-done _ _ _ _ _ l.invariant.1 l.invariant.2 l.i l.different (omega arith) l.invariant.3
+    parts_done _ _ _ _ _ l.invariant.1 l.invariant.2 l.i l.different (omega arith) l.invariant.3
 
 pub same-parts-spec : {M : Type 1} → statement M
 same-parts-spec =

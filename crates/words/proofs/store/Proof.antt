@@ -1,6 +1,6 @@
 -- Four stores are `sets` of four bytes.
 use Rattle.std.proofs.Common.{◌≡◌, ℕ, suc, ◌+◌, arith, length-set, rules}
-use Rattle.words.specs.BitLaws.{by-shifts}
+use Rattle.words.specs.BitLaws.{by_shifts}
 use Rattle.words.proofs.store.Statement.{statement}
 use Rattle.words.proofs.store.Tie as tie
 
@@ -46,7 +46,7 @@ returns c =
     let e₁ : i + 1 ≡ suc i = omega arith in
     let e₂ : i + 2 ≡ suc (suc i) = omega arith in
     let e₃ : i + 3 ≡ suc (suc (suc i)) = omega arith in
-    rw by-shifts (cc)
+    rw by_shifts (cc)
 
 pub store_spec : {M : Type 1} → statement M
 store_spec =

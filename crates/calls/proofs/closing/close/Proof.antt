@@ -4,14 +4,14 @@ use mathlib.Core.Path.{sym, ap, ◌∙◌}
 use mathlib.Core.List.{List}
 use Prim.Native.Nat.{ℕ}
 use lib.ListN.{length}
-use Rattle.slots.specs.Slot.{slotStateOf}
-use Rattle.slots.specs.TableLaws.{slot-length}
+use Rattle.slots.specs.Slot.{slot_state_of}
+use Rattle.slots.specs.TableLaws.{slot_length}
 use Rattle.calls.specs.Outcome.{lent, tables}
-use Rattle.calls.specs.OutcomeLaws.{lengths-are}
+use Rattle.calls.specs.OutcomeLaws.{lengths_are}
 use Rattle.calls.specs.Whole.{whole}
-use Rattle.calls.specs.Close.{heldBy}
-use Rattle.calls.specs.Parts.{onUnits}
-use Rattle.calls.specs.CloseLaws.{holds-open, close-h1, close-h3, close-held}
+use Rattle.calls.specs.Close.{held_by}
+use Rattle.calls.specs.Parts.{on_units}
+use Rattle.calls.specs.CloseLaws.{holds_open, close_h1, close_h3, close_held}
 use Rattle.calls.proofs.closing.close.Statement.{statement}
 use Rattle.calls.proofs.closing.close.Tie as tie
 
@@ -22,7 +22,7 @@ is-held-requires : tie.Need-is-held-requires
 is-held-requires c κs =
     let c1 = c.before in
     let c2 = c1.before in
-    let k = lengths-are _ _ _ (sym c2.right-lengths.ensures ∙ c1.if1.true) in
+    let k = lengths_are _ _ _ (sym c2.right-lengths.ensures ∙ c1.if1.true) in
     k.1
 
 record-of-requires : tie.Need-record-of-requires
@@ -32,8 +32,8 @@ record-of-requires c κs =
     let c5 = c3.before.before in
     let c6 = c5.before in
     let c11 = c6.before.before.before.before.before in
-    let k = lengths-are _ _ _ (sym c6.right-lengths.ensures ∙ c5.if1.true) in
-    let h = holds-open c11.args.slots.now c11.args.slot.0 (sym c3.is_held_lem.ensures ∙ c2.if2.true) in
+    let k = lengths_are _ _ _ (sym c6.right-lengths.ensures ∙ c5.if1.true) in
+    let h = holds_open c11.args.slots.now c11.args.slot.0 (sym c3.is_held_lem.ensures ∙ c2.if2.true) in
     (k.1, h.0)
 
 judge-again-requires : tie.Need-judge-again-requires
@@ -43,11 +43,11 @@ judge-again-requires c κs =
     let c6 = c4.before.before in
     let c7 = c6.before in
     let c12 = c7.before.before.before.before.before in
-    let k = lengths-are _ _ _ (sym c7.right-lengths.ensures ∙ c6.if1.true) in
-    let h = holds-open c12.args.slots.now c12.args.slot.0 (sym c4.is_held_lem.ensures ∙ c3.if2.true) in (
+    let k = lengths_are _ _ _ (sym c7.right-lengths.ensures ∙ c6.if1.true) in
+    let h = holds_open c12.args.slots.now c12.args.slot.0 (sym c4.is_held_lem.ensures ∙ c3.if2.true) in (
       k.0,
-      ap length c.record_of.ensures ∙ slot-length c12.args.slot.0 c12.args.slots.now k.1 h.0,
-      ap slotStateOf c.record_of.ensures ∙ h.1,
+      ap length c.record_of.ensures ∙ slot_length c12.args.slot.0 c12.args.slots.now k.1 h.0,
+      ap slot_state_of c.record_of.ensures ∙ h.1,
     )
 
 free-requires : tie.Need-free-requires
@@ -57,8 +57,8 @@ free-requires c κs =
     let c10 = c8.before.before in
     let c11 = c10.before in
     let c16 = c11.before.before.before.before.before in
-    let k = lengths-are _ _ _ (sym c11.right-lengths.ensures ∙ c10.if1.true) in
-    let h = holds-open c16.args.slots.now c16.args.slot.0 (sym c8.is_held_lem.ensures ∙ c7.if2.true) in
+    let k = lengths_are _ _ _ (sym c11.right-lengths.ensures ∙ c10.if1.true) in
+    let h = holds_open c16.args.slots.now c16.args.slot.0 (sym c8.is_held_lem.ensures ∙ c7.if2.true) in
     (k.1, h.0)
 
 same_length : tie.Need-same-length
@@ -79,8 +79,8 @@ returns c =
     let c19 = c14.before.before.before.before.before in
     let a = c19.args in
     let l = lent (tables a.units.now a.slots.now) a.reply.now in
-    let rec = ap (λ (x : List ℕ). onUnits (whole a.units.now (heldBy x) a.list.now a.clock)) c7.record_of.ensures in
-    rw c2.free.ensures (close-held l a.slot.0 a.list.now a.clock _ c14.right-lengths.ensures c13.if1.true _ c11.is_held_lem.ensures c10.if2.true c6.judge-again.result _ (c6.judge-again.ensures ∙ rec))
+    let rec = ap (λ (x : List ℕ). on_units (whole a.units.now (held_by x) a.list.now a.clock)) c7.record_of.ensures in
+    rw c2.free.ensures (close_held l a.slot.0 a.list.now a.clock _ c14.right-lengths.ensures c13.if1.true _ c11.is_held_lem.ensures c10.if2.true c6.judge-again.result _ (c6.judge-again.ensures ∙ rec))
 
 same-length-3 : tie.Need-same-length-3
 same-length-3 c = search rules
@@ -93,7 +93,7 @@ returns-2 c =
     let c9 = c4.before.before.before.before.before in
     let a = c9.args in
     let l = lent (tables a.units.now a.slots.now) a.reply.now in
-    close-h3 l a.slot.0 a.list.now a.clock _ c4.right-lengths.ensures c3.if1.true _ c1.is_held_lem.ensures c.if2.false
+    close_h3 l a.slot.0 a.list.now a.clock _ c4.right-lengths.ensures c3.if1.true _ c1.is_held_lem.ensures c.if2.false
 
 returns-3 : tie.Need-returns-3
 returns-3 c =
@@ -101,7 +101,7 @@ returns-3 c =
     let c6 = c1.before.before.before.before.before in
     let a = c6.args in
     let l = lent (tables a.units.now a.slots.now) a.reply.now in
-    close-h1 l a.slot.0 a.list.now a.clock _ c1.right-lengths.ensures c.if1.false
+    close_h1 l a.slot.0 a.list.now a.clock _ c1.right-lengths.ensures c.if1.false
 
 pub close_spec : {M : Type 1} → statement M
 close_spec =

@@ -1,7 +1,7 @@
 -- The list is judged where nothing before it refuses.
 use borrow.Author.Rules.{rules}
 use Rattle.judge.specs.Seen.{seen}
-use Rattle.calls.specs.WholeLaws.{close_late, close-early}
+use Rattle.calls.specs.WholeLaws.{close_late, close_early}
 use Rattle.calls.proofs.closing.close_reason.Statement.{statement}
 use Rattle.calls.proofs.closing.close_reason.Tie as tie
 
@@ -26,7 +26,7 @@ returns-2 c =
     let c6 = c1.before.before.before.before.before in
     let a = c6.args in
     let s = seen a.units.now a.unit.0 in
-    close-early s a.command.now a.token.now a.list.now a.clock _ c1.open-reason.ensures c.if1.false
+    close_early s a.command.now a.token.now a.list.now a.clock _ c1.open-reason.ensures c.if1.false
 
 pub close-reason-spec : {M : Type 1} → statement M
 close-reason-spec =

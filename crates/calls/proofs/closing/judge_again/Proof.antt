@@ -3,13 +3,13 @@ use borrow.Author.Rules.{rules}
 use mathlib.Core.Path.{sym, ap, ◌∙◌}
 use mathlib.Core.List.{List}
 use Prim.Native.Nat.{ℕ}
-use Rattle.model.specs.Codes.{dataOut}
+use Rattle.model.specs.Codes.{data_out}
 use Rattle.judge.specs.Command.{code_of}
 use Rattle.judge.specs.Seen.{seen}
-use Rattle.judge.specs.JudgementLaws.{open-passed}
-use Rattle.calls.specs.WholeLaws.{close-none, list-passed, not-replied, held-code}
-use Rattle.calls.specs.Close.{heldBy}
-use Rattle.calls.specs.CloseLaws.{held-reason, held-passed, whole-passed, whole-refused}
+use Rattle.judge.specs.JudgementLaws.{open_passed}
+use Rattle.calls.specs.WholeLaws.{close_none, list_passed, not_replied, held_code}
+use Rattle.calls.specs.Close.{held_by}
+use Rattle.calls.specs.CloseLaws.{held_reason, held_passed, whole_passed, whole_refused}
 use Rattle.calls.proofs.closing.judge_again.Statement.{statement}
 use Rattle.calls.proofs.closing.judge_again.Tie as tie
 
@@ -42,9 +42,9 @@ finish-requires c κs =
     let command = c6.command-of.result.now in
     let token = c5.token-of.result.now in
     let none = sym c2.close-reason.ensures ∙ c1.if1.true in
-    let p = open-passed s command token a.clock (close-none s command token a.list.now a.clock none).0 in
-    let carries = ap (λ (x : List ℕ). dataOut (code_of x)) c6.command-of.ensures ∙ held-code a.rec.now c11.requires.2 in
-    (c11.requires.0, p.small, p.used, c4.facts-of.ensures, not-replied command carries, λ t. list-passed s command token a.list.now a.clock none t)
+    let p = open_passed s command token a.clock (close_none s command token a.list.now a.clock none).0 in
+    let carries = ap (λ (x : List ℕ). data_out (code_of x)) c6.command-of.ensures ∙ held_code a.rec.now c11.requires.2 in
+    (c11.requires.0, p.small, p.used, c4.facts-of.ensures, not_replied command carries, λ t. list_passed s command token a.list.now a.clock none t)
 
 same_length : tie.Need-same-length
 same_length c = search rules
@@ -59,9 +59,9 @@ returns c =
     let c10 = c9.before in
     let c14 = c10.before.before.before.before in
     let a = c14.args in
-    let r = held-reason a.units.now a.rec.now a.list.now a.clock _ _ _ c10.unit-of.ensures c9.command-of.ensures c8.token-of.ensures _ c5.close-reason.ensures in
-    let o = held-passed a.units.now a.rec.now a.list.now a.clock _ _ _ c10.unit-of.ensures c9.command-of.ensures c8.token-of.ensures _ c2.finish.ensures in
-    whole-passed a.units.now (heldBy a.rec.now) a.list.now a.clock _ r c4.if1.true _ o
+    let r = held_reason a.units.now a.rec.now a.list.now a.clock _ _ _ c10.unit-of.ensures c9.command-of.ensures c8.token-of.ensures _ c5.close-reason.ensures in
+    let o = held_passed a.units.now a.rec.now a.list.now a.clock _ _ _ c10.unit-of.ensures c9.command-of.ensures c8.token-of.ensures _ c2.finish.ensures in
+    whole_passed a.units.now (held_by a.rec.now) a.list.now a.clock _ r c4.if1.true _ o
 
 refuse-requires : tie.Need-refuse-requires
 refuse-requires c κs = search rules
@@ -78,8 +78,8 @@ returns-2 c =
     let c7 = c6.before in
     let c11 = c7.before.before.before.before in
     let a = c11.args in
-    let r = held-reason a.units.now a.rec.now a.list.now a.clock _ _ _ c7.unit-of.ensures c6.command-of.ensures c5.token-of.ensures _ c2.close-reason.ensures in
-    whole-refused a.units.now (heldBy a.rec.now) a.list.now a.clock _ r c1.if1.false _ c.refuse.ensures
+    let r = held_reason a.units.now a.rec.now a.list.now a.clock _ _ _ c7.unit-of.ensures c6.command-of.ensures c5.token-of.ensures _ c2.close-reason.ensures in
+    whole_refused a.units.now (held_by a.rec.now) a.list.now a.clock _ r c1.if1.false _ c.refuse.ensures
 
 pub judge-again-spec : {M : Type 1} → statement M
 judge-again-spec =

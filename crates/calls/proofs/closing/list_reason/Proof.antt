@@ -1,6 +1,6 @@
 -- Call by call as the list of tests has it.
 use borrow.Author.Rules.{rules}
-use Rattle.calls.specs.Whole.{listTests}
+use Rattle.calls.specs.Whole.{list_tests}
 use Rattle.calls.proofs.closing.list_reason.Statement.{statement}
 use Rattle.calls.proofs.closing.list_reason.Tie as tie
 
@@ -26,7 +26,7 @@ judged-requires-2 : tie.Need-judged-requires-2
 judged-requires-2 c κs = search rules
 
 returns : tie.Need-returns
-unfolding listTests
+unfolding list_tests
 returns c =
     let c1 = c.before in
     let c2 = c1.before in

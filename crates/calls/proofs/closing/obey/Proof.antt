@@ -3,13 +3,13 @@ use borrow.Author.Rules.{rules}
 use mathlib.Core.Path.{sym, ap, ◌∙◌}
 use Prim.Native.Nat.{◌*◌}
 use native.Mathlib.Omega.{arith}
-use Rattle.wire.specs.PatchLaws.{patch-lent, lent-part}
-use Rattle.units.specs.Unit.{keySetOf}
+use Rattle.wire.specs.PatchLaws.{patch_lent, lent_part}
+use Rattle.units.specs.Unit.{key_set_of}
 use Rattle.judge.specs.Seen.{seen}
-use Rattle.pages.specs.Out.{newMethod, newTag}
-use Rattle.pages.specs.Effects.{attributesSet, newKeys}
+use Rattle.pages.specs.Out.{new_method, new_tag}
+use Rattle.pages.specs.Effects.{attributes_set, new_keys}
 use Rattle.calls.specs.Whole.{laid}
-use Rattle.calls.specs.CloseLaws.{made-attributes, made-keys}
+use Rattle.calls.specs.CloseLaws.{made_attributes, made_keys}
 use Rattle.calls.proofs.closing.obey.Statement.{statement}
 use Rattle.calls.proofs.closing.obey.Tie as tie
 
@@ -69,14 +69,14 @@ returns c =
     let a = c8.args in
     let w = c2.set-attributes in
     let s = seen a.units.now a.unit.0 in
-    patch-lent a.units.now (a.unit.0 * 512) 512 _ _ (omega arith) w.auto.0 (w.ensures ∙ ap (attributesSet (newMethod a.list.now) (newTag a.list.now)) (lent-part a.units.now (a.unit.0 * 512) 512))
-    ∙ ap (laid a.units.now a.unit.0) (sym (made-attributes s a.page a.list.now c5.if1.true))
+    patch_lent a.units.now (a.unit.0 * 512) 512 _ _ (omega arith) w.auto.0 (w.ensures ∙ ap (attributes_set (new_method a.list.now) (new_tag a.list.now)) (lent_part a.units.now (a.unit.0 * 512) 512))
+    ∙ ap (laid a.units.now a.unit.0) (sym (made_attributes s a.page a.list.now c5.if1.true))
 
 same-length-2 : tie.Need-same-length-2
 same-length-2 c = search rules
 
 returns-2 : tie.Need-returns-2
-unfolding keySetOf
+unfolding key_set_of
 returns-2 c =
     let c2 = c.before.before in
     let c5 = c2.before.before.before in
@@ -88,8 +88,8 @@ returns-2 c =
     let keeper = c5.keeper-of.ensures in
     let at = keeper.0 in
     let small = keeper.1 in
-    patch-lent a.units.now (c5.keeper-of.result.0 * 512) 512 _ _ (omega arith) w.auto.0 (w.ensures ∙ ap (newKeys a.page a.list.now) (lent-part a.units.now (c5.keeper-of.result.0 * 512) 512))
-    ∙ rw at (ap (laid a.units.now a.unit.0) (sym (made-keys s a.page a.list.now c7.if1.false)))
+    patch_lent a.units.now (c5.keeper-of.result.0 * 512) 512 _ _ (omega arith) w.auto.0 (w.ensures ∙ ap (new_keys a.page a.list.now) (lent_part a.units.now (c5.keeper-of.result.0 * 512) 512))
+    ∙ rw at (ap (laid a.units.now a.unit.0) (sym (made_keys s a.page a.list.now c7.if1.false)))
 
 pub obey-spec : {M : Type 1} → statement M
 obey-spec =

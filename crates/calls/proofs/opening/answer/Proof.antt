@@ -4,7 +4,7 @@ use mathlib.Core.Path.{ap, ◌∙◌}
 use lib.ListN.{length}
 use Rattle.wire.specs.Bytes.{patch}
 use Rattle.judge.specs.Seen.{seen}
-use Rattle.calls.specs.OpenLaws.{reply-asked, answers-page, answers-run}
+use Rattle.calls.specs.OpenLaws.{reply_asked, answers_page, answers_run}
 use Rattle.calls.proofs.opening.answer.Statement.{statement}
 use Rattle.calls.proofs.opening.answer.Tie as tie
 
@@ -37,16 +37,16 @@ returns c =
     let c12 = c8.before.before.before.before in
     let a = c12.args in
     let s = seen a.units.now a.unit.0 in
-    let asked-for = reply-asked s a.command.now a.facts _ _ _ c12.requires.4 c3.be32.ensures c6.record_of.ensures c5.keys_of.ensures in
-    answers-page a.reply.now s a.command.now c12.requires.5 _ c8.is-replied.ensures c7.if1.true _ _ (c2.reply.ensures.0 ∙ ap length asked-for)
-    (c2.reply.ensures.1 ∙ ap (patch a.reply.now 0) asked-for)
+    let asked_for = reply_asked s a.command.now a.facts _ _ _ c12.requires.4 c3.be32.ensures c6.record_of.ensures c5.keys_of.ensures in
+    answers_page a.reply.now s a.command.now c12.requires.5 _ c8.is-replied.ensures c7.if1.true _ _ (c2.reply.ensures.0 ∙ ap length asked_for)
+    (c2.reply.ensures.1 ∙ ap (patch a.reply.now 0) asked_for)
 
 returns-2 : tie.Need-returns-2
 returns-2 c =
     let c1 = c.before in
     let c5 = c1.before.before.before.before in
     let a = c5.args in
-    answers-run a.reply.now (seen a.units.now a.unit.0) a.command.now c5.requires.5 _ c1.is-replied.ensures c.if1.false
+    answers_run a.reply.now (seen a.units.now a.unit.0) a.command.now c5.requires.5 _ c1.is-replied.ensures c.if1.false
 
 pub answer-spec : {M : Type 1} → statement M
 answer-spec =

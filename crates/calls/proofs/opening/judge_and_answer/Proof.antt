@@ -3,16 +3,16 @@ use borrow.Author.Rules.{rules}
 use mathlib.Core.Path.{sym, ap, ◌∙◌}
 use native.Mathlib.Omega.{arith}
 use lib.ListN.{length}
-use Rattle.model.specs.Codes.{dataOut}
-use Rattle.model.specs.CodeLaws.{legal-small}
+use Rattle.model.specs.Codes.{data_out}
+use Rattle.model.specs.CodeLaws.{legal_small}
 use Rattle.judge.specs.declared.facts.Facts.{Facts}
 use Rattle.judge.specs.Command.{code_of}
 use Rattle.judge.specs.Seen.{seen}
-use Rattle.judge.specs.JudgementLaws.{open-passed}
+use Rattle.judge.specs.JudgementLaws.{open_passed}
 use Rattle.calls.specs.Outcome.{lent, tables}
 use Rattle.calls.specs.Whole.{asked}
-use Rattle.calls.specs.WholeLaws.{out-code}
-use Rattle.calls.specs.OpenLaws.{judged-parks, judged-answers, judged-refuses}
+use Rattle.calls.specs.WholeLaws.{out_code}
+use Rattle.calls.specs.OpenLaws.{judged_parks, judged_answers, judged_refuses}
 use Rattle.calls.proofs.opening.judge_and_answer.Statement.{statement}
 use Rattle.calls.proofs.opening.judge_and_answer.Tie as tie
 
@@ -31,8 +31,8 @@ park-requires c κs =
     let c4 = c3.before in
     let c11 = c4.before.before.before.before.before.before.before in
     let a = c11.args in
-    let p = open-passed (seen a.units.now a.unit.0) a.command.now a.token.now a.clock (sym c4.open-reason.ensures ∙ c3.if1.true) in
-    let small = legal-small (code_of a.command.now) (length a.command.now) p.legal in
+    let p = open_passed (seen a.units.now a.unit.0) a.command.now a.token.now a.clock (sym c4.open-reason.ensures ∙ c3.if1.true) in
+    let small = legal_small (code_of a.command.now) (length a.command.now) p.legal in
     (c11.requires.1, omega arith, c11.requires.3)
 
 same_length : tie.Need-same-length
@@ -50,7 +50,7 @@ returns c =
     let a = c14.args in
     let l = lent (tables a.units.now a.slots.now) a.reply.now in
     let k = asked a.unit.0 a.command.now a.token.now in
-    judged-parks l k a.clock _ c7.open-reason.ensures c6.if1.true _ (c5.data-out.ensures ∙ ap (λ (f : Facts). dataOut f.code) c8.facts-of.ensures) c4.if2.true c2.park.result _ c2.park.ensures
+    judged_parks l k a.clock _ c7.open-reason.ensures c6.if1.true _ (c5.data_out_lem.ensures ∙ ap (λ (f : Facts). data_out f.code) c8.facts-of.ensures) c4.if2.true c2.park.result _ c2.park.ensures
 
 answer-requires : tie.Need-answer-requires
 answer-requires c κs =
@@ -61,8 +61,8 @@ answer-requires c κs =
     let c5 = c4.before in
     let c11 = c5.before.before.before.before.before.before in
     let a = c11.args in
-    let p = open-passed (seen a.units.now a.unit.0) a.command.now a.token.now a.clock (sym c4.open-reason.ensures ∙ c3.if1.true) in
-    (c11.requires.2, c11.requires.0, p.small, p.used, c5.facts-of.ensures, out-code (code_of a.command.now) (sym (c2.data-out.ensures ∙ ap (λ (f : Facts). dataOut f.code) c5.facts-of.ensures) ∙ c1.if2.false))
+    let p = open_passed (seen a.units.now a.unit.0) a.command.now a.token.now a.clock (sym c4.open-reason.ensures ∙ c3.if1.true) in
+    (c11.requires.2, c11.requires.0, p.small, p.used, c5.facts-of.ensures, out_code (code_of a.command.now) (sym (c2.data_out_lem.ensures ∙ ap (λ (f : Facts). data_out f.code) c5.facts-of.ensures) ∙ c1.if2.false))
 
 same-length-2 : tie.Need-same-length-2
 same-length-2 c = search rules
@@ -79,7 +79,7 @@ returns-2 c =
     let a = c14.args in
     let l = lent (tables a.units.now a.slots.now) a.reply.now in
     let k = asked a.unit.0 a.command.now a.token.now in
-    judged-answers l k a.clock _ c7.open-reason.ensures c6.if1.true _ (c5.data-out.ensures ∙ ap (λ (f : Facts). dataOut f.code) c8.facts-of.ensures) c4.if2.false c2.answer.result _ c2.answer.ensures
+    judged_answers l k a.clock _ c7.open-reason.ensures c6.if1.true _ (c5.data_out_lem.ensures ∙ ap (λ (f : Facts). data_out f.code) c8.facts-of.ensures) c4.if2.false c2.answer.result _ c2.answer.ensures
 
 refuse-requires : tie.Need-refuse-requires
 refuse-requires c κs = search rules
@@ -92,7 +92,7 @@ returns-3 c =
     let a = c9.args in
     let l = lent (tables a.units.now a.slots.now) a.reply.now in
     let k = asked a.unit.0 a.command.now a.token.now in
-    judged-refuses l k a.clock _ c2.open-reason.ensures c1.if1.false _ c.refuse.ensures
+    judged_refuses l k a.clock _ c2.open-reason.ensures c1.if1.false _ c.refuse.ensures
 
 pub judge-and-answer-spec : {M : Type 1} → statement M
 judge-and-answer-spec =

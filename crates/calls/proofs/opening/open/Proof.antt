@@ -1,11 +1,11 @@
 -- The tests of the lengths, then the judgement.
 use borrow.Author.Rules.{rules}
 use mathlib.Core.Path.{sym, ◌∙◌}
-use Rattle.slots.specs.SlotLaws.{token-is}
+use Rattle.slots.specs.SlotLaws.{token_is}
 use Rattle.calls.specs.Outcome.{lent, tables}
-use Rattle.calls.specs.OutcomeLaws.{lengths-are}
+use Rattle.calls.specs.OutcomeLaws.{lengths_are}
 use Rattle.calls.specs.Whole.{asked}
-use Rattle.calls.specs.OpenLaws.{open-h1, open-h2, open-judged}
+use Rattle.calls.specs.OpenLaws.{open_h1, open_h2, open_judged}
 use Rattle.calls.proofs.opening.open.Statement.{statement}
 use Rattle.calls.proofs.opening.open.Tie as tie
 
@@ -21,8 +21,8 @@ judge-and-answer-requires c κs =
     let c3 = c2.before in
     let c4 = c3.before in
     let c5 = c4.before in
-    let k = lengths-are _ _ _ (sym c5.right-lengths.ensures ∙ c4.if1.true) in
-    let t = token-is _ (sym c3.right-token.ensures ∙ c2.if2.true) in
+    let k = lengths_are _ _ _ (sym c5.right-lengths.ensures ∙ c4.if1.true) in
+    let t = token_is _ (sym c3.right-token.ensures ∙ c2.if2.true) in
     (k.0, k.1, k.2, t.1)
 
 same_length : tie.Need-same-length
@@ -42,7 +42,7 @@ returns c =
     let a = c16.args in
     let l = lent (tables a.units.now a.slots.now) a.reply.now in
     let k = asked a.unit.0 a.command.now a.token.now in
-    open-judged l k a.clock _ c10.right-lengths.ensures c9.if1.true _ c8.right-token.ensures c7.if2.true _ c4.judge-and-answer.ensures
+    open_judged l k a.clock _ c10.right-lengths.ensures c9.if1.true _ c8.right-token.ensures c7.if2.true _ c4.judge-and-answer.ensures
 
 returns-2 : tie.Need-returns-2
 returns-2 c =
@@ -53,7 +53,7 @@ returns-2 c =
     let a = c9.args in
     let l = lent (tables a.units.now a.slots.now) a.reply.now in
     let k = asked a.unit.0 a.command.now a.token.now in
-    open-h2 l k a.clock _ c3.right-lengths.ensures c2.if1.true _ c1.right-token.ensures c.if2.false
+    open_h2 l k a.clock _ c3.right-lengths.ensures c2.if1.true _ c1.right-token.ensures c.if2.false
 
 returns-3 : tie.Need-returns-3
 returns-3 c =
@@ -62,7 +62,7 @@ returns-3 c =
     let a = c7.args in
     let l = lent (tables a.units.now a.slots.now) a.reply.now in
     let k = asked a.unit.0 a.command.now a.token.now in
-    open-h1 l k a.clock _ c1.right-lengths.ensures c.if1.false
+    open_h1 l k a.clock _ c1.right-lengths.ensures c.if1.false
 
 pub open_spec : {M : Type 1} → statement M
 open_spec =

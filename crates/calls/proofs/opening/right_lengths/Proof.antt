@@ -1,6 +1,6 @@
 -- Call by call as the definition has it.
 use borrow.Author.Rules.{rules}
-use Rattle.calls.specs.Outcome.{rightLengths}
+use Rattle.calls.specs.Outcome.{right_lengths}
 use Rattle.calls.proofs.opening.right_lengths.Statement.{statement}
 use Rattle.calls.proofs.opening.right_lengths.Tie as tie
 
@@ -11,7 +11,7 @@ and-requires-2 : tie.Need-and-requires-2
 and-requires-2 c κs = search rules
 
 returns : tie.Need-returns
-unfolding rightLengths
+unfolding right_lengths
 returns c =
     let c1 = c.before in
     simp (c.and2.ensures, c1.and.ensures)

@@ -1,6 +1,6 @@
 -- Call by call as the definition has it.
 use borrow.Author.Rules.{rules}
-use Rattle.judge.specs.Command.{needFor}
+use Rattle.judge.specs.Command.{need_for}
 use Rattle.judge.proofs.facts.facts_of.Statement.{statement}
 use Rattle.judge.proofs.facts.facts_of.Tie as tie
 
@@ -17,7 +17,7 @@ need-of-requires : tie.Need-need-of-requires
 need-of-requires c κs = search rules
 
 returns : tie.Need-returns
-unfolding needFor
+unfolding need_for
 returns c =
     let c1 = c.before in
     let c2 = c1.before in

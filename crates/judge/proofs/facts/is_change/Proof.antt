@@ -1,6 +1,6 @@
 -- Call by call as the definition has it.
 use borrow.Author.Rules.{rules}
-use Rattle.judge.specs.Command.{isChange}
+use Rattle.judge.specs.Command.{is_change}
 use Rattle.judge.proofs.facts.is_change.Statement.{statement}
 use Rattle.judge.proofs.facts.is_change.Tie as tie
 
@@ -8,7 +8,7 @@ and-requires : tie.Need-and-requires
 and-requires c κs = search rules
 
 returns : tie.Need-returns
-unfolding isChange
+unfolding is_change
 returns c = λ d e. simp (c.and.ensures, e)
 
 pub is-change-spec : {M : Type 1} → statement M

@@ -1,6 +1,6 @@
 -- Call by call as the definition has it.
 use borrow.Author.Rules.{rules}
-use Rattle.judge.specs.Judgement.{rulesFor}
+use Rattle.judge.specs.Judgement.{rules_for}
 use Rattle.judge.proofs.facts.rules_for.Statement.{statement}
 use Rattle.judge.proofs.facts.rules_for.Tie as tie
 
@@ -14,7 +14,7 @@ or-requires : tie.Need-or-requires
 or-requires c κs = search rules
 
 returns : tie.Need-returns
-unfolding rulesFor
+unfolding rules_for
 returns c =
     let c1 = c.before in
     let c2 = c1.before in

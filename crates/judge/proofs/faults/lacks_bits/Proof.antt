@@ -4,12 +4,12 @@ use mathlib.Core.Bool.{not}
 use Prim.Native.Nat.{ℕ}
 use lib.Dec.{eqb}
 use Rattle.judge.specs.FaultLaws.{and_bytes}
-use Rattle.judge.specs.Faults.{lacksBits}
+use Rattle.judge.specs.Faults.{lacks_bits}
 use Rattle.judge.proofs.faults.lacks_bits.Statement.{statement}
 use Rattle.judge.proofs.faults.lacks_bits.Tie as tie
 
 returns : tie.Need-returns
-unfolding lacksBits
+unfolding lacks_bits
 returns c =
     let a = c.args in
     ap (λ (n : ℕ). not (eqb n a.needed)) (sym (and_bytes a.needed a.permissions c.ranges.needed.fits c.ranges.permissions.fits))

@@ -1,8 +1,8 @@
 -- Call by call as the list of tests has it.
 use borrow.Author.Rules.{rules}
-use Rattle.judge.specs.Judgement.{codeTests}
-use Rattle.judge.specs.Command.{needFor}
-use Rattle.model.specs.RowLaws.{listed-by-need}
+use Rattle.judge.specs.Judgement.{code_tests}
+use Rattle.judge.specs.Command.{need_for}
+use Rattle.model.specs.RowLaws.{listed_by_need}
 use Rattle.judge.proofs.groups.code_reason.Statement.{statement}
 use Rattle.judge.proofs.groups.code_reason.Tie as tie
 
@@ -22,14 +22,14 @@ judged-requires : tie.Need-judged-requires
 judged-requires c κs = search rules
 
 returns : tie.Need-returns
-unfolding codeTests needFor
+unfolding code_tests need_for
 returns c =
     let c1 = c.before in
     let c2 = c1.before in
     let c3 = c2.before in
     let c4 = c3.before in
     let c6 = c4.before.before in
-    simp (c.judged.ensures, c1.or2.ensures, c2.or.ensures, c3.is-unknown.ensures, c4.by-page.ensures, c6.requires, listed-by-need)
+    simp (c.judged.ensures, c1.or2.ensures, c2.or.ensures, c3.is-unknown.ensures, c4.by_page_lem.ensures, c6.requires, listed_by_need)
 
 pub code-reason-spec : {M : Type 1} → statement M
 code-reason-spec =

@@ -1,7 +1,7 @@
 -- Call by call as the list of tests has it.
 use borrow.Author.Rules.{rules}
-use Rattle.judge.specs.Judgement.{factTests}
-use Rattle.judge.specs.Descriptor.{expiration, permissions, capTag}
+use Rattle.judge.specs.Judgement.{fact_tests}
+use Rattle.judge.specs.Descriptor.{expiration, permissions, cap_tag}
 use Rattle.judge.proofs.groups.fact_reason.Statement.{statement}
 use Rattle.judge.proofs.groups.fact_reason.Tie as tie
 
@@ -42,7 +42,7 @@ judged-requires-4 : tie.Need-judged-requires-4
 judged-requires-4 c κs = search rules
 
 returns : tie.Need-returns
-unfolding factTests expiration permissions capTag
+unfolding fact_tests expiration permissions cap_tag
 returns c =
     let c1 = c.before in
     let c2 = c1.before in

@@ -1,7 +1,7 @@
 -- Call by call as the list of tests has it.
 use borrow.Author.Rules.{rules}
-use Rattle.judge.specs.Judgement.{formTests}
-use Rattle.judge.specs.Descriptor.{format, capMethod, algorithm}
+use Rattle.judge.specs.Judgement.{form_tests}
+use Rattle.judge.specs.Descriptor.{format, cap_method, algorithm}
 use Rattle.judge.proofs.groups.form_reason.Statement.{statement}
 use Rattle.judge.proofs.groups.form_reason.Tie as tie
 
@@ -33,7 +33,7 @@ judged-requires-3 : tie.Need-judged-requires-3
 judged-requires-3 c κs = search rules
 
 returns : tie.Need-returns
-unfolding formTests format capMethod algorithm
+unfolding form_tests format cap_method algorithm
 returns c =
     let c1 = c.before in
     let c2 = c1.before in

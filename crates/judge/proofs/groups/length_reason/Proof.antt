@@ -1,6 +1,6 @@
 -- Call by call as the list of tests has it.
 use borrow.Author.Rules.{rules}
-use Rattle.judge.specs.Judgement.{lengthTests}
+use Rattle.judge.specs.Judgement.{length_tests}
 use Rattle.judge.proofs.groups.length_reason.Statement.{statement}
 use Rattle.judge.proofs.groups.length_reason.Tie as tie
 
@@ -11,7 +11,7 @@ judged-requires : tie.Need-judged-requires
 judged-requires c κs = search rules
 
 returns : tie.Need-returns
-unfolding lengthTests
+unfolding length_tests
 returns c =
     let c1 = c.before in
     let c3 = c1.before.before in

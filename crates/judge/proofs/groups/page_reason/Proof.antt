@@ -1,6 +1,6 @@
 -- Call by call as the list of tests has it.
 use borrow.Author.Rules.{rules}
-use Rattle.judge.specs.Judgement.{pageTests}
+use Rattle.judge.specs.Judgement.{page_tests}
 use Rattle.judge.proofs.groups.page_reason.Statement.{statement}
 use Rattle.judge.proofs.groups.page_reason.Tie as tie
 
@@ -29,7 +29,7 @@ judged-requires-2 : tie.Need-judged-requires-2
 judged-requires-2 c κs = search rules
 
 returns : tie.Need-returns
-unfolding pageTests
+unfolding page_tests
 returns c =
     let c1 = c.before in
     let c2 = c1.before in

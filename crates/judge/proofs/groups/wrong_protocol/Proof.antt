@@ -1,6 +1,6 @@
 -- Call by call as the definition has it.
 use borrow.Author.Rules.{rules}
-use Rattle.judge.specs.Judgement.{wrongProtocol}
+use Rattle.judge.specs.Judgement.{wrong_protocol}
 use Rattle.judge.proofs.groups.wrong_protocol.Statement.{statement}
 use Rattle.judge.proofs.groups.wrong_protocol.Tie as tie
 
@@ -20,7 +20,7 @@ or-requires-2 : tie.Need-or-requires-2
 or-requires-2 c κs = search rules
 
 returns : tie.Need-returns
-unfolding wrongProtocol
+unfolding wrong_protocol
 returns c =
     let c1 = c.before in
     let c2 = c1.before in

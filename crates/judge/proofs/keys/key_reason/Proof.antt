@@ -1,10 +1,10 @@
 -- Where CAPKEY doesn't rule neither test applies; else the key is looked for first.
 use borrow.Author.Rules.{rules}
 use mathlib.Core.Path.{refl, ap, ◌∙◌}
-use Rattle.judge.specs.JudgementLaws.{keys-unruled, keys-lacking, keys-judged}
+use Rattle.judge.specs.JudgementLaws.{keys_unruled, keys_lacking, keys_judged}
 use Rattle.judge.specs.declared.facts.Facts.{Facts}
-use Rattle.model.specs.Rows.{isMaster}
-use Rattle.judge.specs.Command.{needFor, isChange}
+use Rattle.model.specs.Rows.{is_master}
+use Rattle.judge.specs.Command.{need_for, is_change}
 use Rattle.judge.proofs.keys.key_reason.Statement.{statement}
 use Rattle.judge.proofs.keys.key_reason.Tie as tie
 
@@ -41,9 +41,9 @@ returns c =
     let c11 = c7.before.before.before.before in
     λ d e.
     let a = c11.args in
-    let m = c5.is-master.ensures ∙ ap (λ (f : Facts). isMaster f.need) e in
+    let m = c5.is-master.ensures ∙ ap (λ (f : Facts). is_master f.need) e in
     let n = c4.is-change.ensures d e in
-    keys-judged a.keys.now a.descriptor.now a.value a.token.now _ _ _ _ m n a.rules c7.if1.true _ c6.at.ensures _ c3.chosen-key.ensures.0 c2.if2.true _ c3.chosen-key.ensures.1 _ c1.wrong-value.ensures _ c.judged.ensures
+    keys_judged a.keys.now a.descriptor.now a.value a.token.now _ _ _ _ m n a.rules c7.if1.true _ c6.at.ensures _ c3.chosen-key.ensures.0 c2.if2.true _ c3.chosen-key.ensures.1 _ c1.wrong-value.ensures _ c.judged.ensures
 
 returns-2 : tie.Need-returns-2
 returns-2 c =
@@ -55,16 +55,16 @@ returns-2 c =
     let c9 = c5.before.before.before.before in
     λ d e.
     let a = c9.args in
-    let m = c3.is-master.ensures ∙ ap (λ (f : Facts). isMaster f.need) e in
+    let m = c3.is-master.ensures ∙ ap (λ (f : Facts). is_master f.need) e in
     let n = c2.is-change.ensures d e in
-    keys-lacking a.keys.now a.descriptor.now a.value a.token.now _ _ _ _ m n a.rules c5.if1.true _ c4.at.ensures _ c1.chosen-key.ensures.0 c.if2.false
+    keys_lacking a.keys.now a.descriptor.now a.value a.token.now _ _ _ _ m n a.rules c5.if1.true _ c4.at.ensures _ c1.chosen-key.ensures.0 c.if2.false
 
 returns-3 : tie.Need-returns-3
 returns-3 c =
     let c4 = c.before.before.before.before in
     λ d e.
     let a = c4.args in
-    keys-unruled a.keys.now a.descriptor.now a.value a.token.now (isMaster (needFor d)) (isChange d) _ _ refl refl a.rules c.if1.false
+    keys_unruled a.keys.now a.descriptor.now a.value a.token.now (is_master (need_for d)) (is_change d) _ _ refl refl a.rules c.if1.false
 
 pub key-reason-spec : {M : Type 1} → statement M
 key-reason-spec =

@@ -1,6 +1,6 @@
 -- One HMAC under the result of another.
 use borrow.Author.Rules.{rules}
-use Rattle.judge.specs.Keys.{validationTag}
+use Rattle.judge.specs.Keys.{validation_tag}
 use Rattle.judge.proofs.keys.validation_tag.Statement.{statement}
 use Rattle.judge.proofs.keys.validation_tag.Tie as tie
 
@@ -14,7 +14,7 @@ hmac-of-requires-2 : tie.Need-hmac-of-requires-2
 hmac-of-requires-2 c κs = search rules
 
 returns : tie.Need-returns
-unfolding validationTag
+unfolding validation_tag
 returns c =
     let c2 = c.before.before in
     simp (c.hmac-of2.ensures, c2.hmac-of.ensures)

@@ -1,6 +1,6 @@
 -- The tag and the value, compared.
 use borrow.Author.Rules.{rules}
-use Rattle.judge.specs.Keys.{tagFor}
+use Rattle.judge.specs.Keys.{tag_for}
 use Rattle.judge.proofs.keys.wrong_value.Statement.{statement}
 use Rattle.judge.proofs.keys.wrong_value.Tie as tie
 
@@ -11,7 +11,7 @@ same20-requires : tie.Need-same20-requires
 same20-requires c κs = search rules
 
 returns : tie.Need-returns
-unfolding tagFor
+unfolding tag_for
 returns c =
     let c1 = c.before in
     simp (c.same20.ensures, c1.validation-tag.ensures)

@@ -1,6 +1,6 @@
 -- The three groups, one after another.
 use borrow.Author.Rules.{rules}
-use Rattle.judge.specs.JudgementLaws.{earlier-order}
+use Rattle.judge.specs.JudgementLaws.{earlier_order}
 use Rattle.judge.specs.Seen.{seen}
 use Rattle.judge.proofs.order.earlier_reason.Statement.{statement}
 use Rattle.judge.proofs.order.earlier_reason.Tie as tie
@@ -28,7 +28,7 @@ returns c =
     let c4 = c3.before in
     let c7 = c4.before.before.before in
     let a = c7.args in
-    earlier-order (seen a.units.now a.unit.0) a.command.now _ _ _ _ _ c4.unit-reason.ensures c3.code-reason.ensures c2.length-reason.ensures c1.or_else.ensures c.or-else2.ensures
+    earlier_order (seen a.units.now a.unit.0) a.command.now _ _ _ _ _ c4.unit-reason.ensures c3.code-reason.ensures c2.length-reason.ensures c1.or_else.ensures c.or-else2.ensures
 
 pub earlier-reason-spec : {M : Type 1} → statement M
 earlier-reason-spec =

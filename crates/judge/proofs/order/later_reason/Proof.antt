@@ -1,6 +1,6 @@
 -- The protocol first; guard and page only where it finds nothing.
 use borrow.Author.Rules.{rules}
-use Rattle.judge.specs.JudgementLaws.{later-goes, later-stops}
+use Rattle.judge.specs.JudgementLaws.{later_goes, later_stops}
 use Rattle.judge.proofs.order.later_reason.Statement.{statement}
 use Rattle.judge.proofs.order.later_reason.Tie as tie
 
@@ -24,14 +24,14 @@ returns c =
     let c4 = c3.before in
     let c9 = c4.before.before.before.before.before in
     let a = c9.args in
-    later-goes a.own.now a.keys.now a.command.now a.token.now a.clock _ c4.protocol-reason.ensures c3.if1.true _ _ _ c2.guard-reason.ensures c1.page-reason.ensures c.or_else.ensures
+    later_goes a.own.now a.keys.now a.command.now a.token.now a.clock _ c4.protocol-reason.ensures c3.if1.true _ _ _ c2.guard-reason.ensures c1.page-reason.ensures c.or_else.ensures
 
 returns-2 : tie.Need-returns-2
 returns-2 c =
     let c1 = c.before in
     let c6 = c1.before.before.before.before.before in
     let a = c6.args in
-    later-stops a.own.now a.keys.now a.command.now a.token.now a.clock _ c1.protocol-reason.ensures c.if1.false
+    later_stops a.own.now a.keys.now a.command.now a.token.now a.clock _ c1.protocol-reason.ensures c.if1.false
 
 pub later-reason-spec : {M : Type 1} → statement M
 later-reason-spec =

@@ -2,7 +2,7 @@
 use borrow.Author.Rules.{rules}
 use mathlib.Core.Path.{◌∙◌}
 use native.Mathlib.Omega.{arith}
-use Rattle.judge.specs.JudgementLaws.{descriptor-fits, descriptor-lent, value_lent, wrapped-goes, wrapped-stops}
+use Rattle.judge.specs.JudgementLaws.{descriptor_fits, descriptor_lent, value_lent, wrapped_goes, wrapped_stops}
 use Rattle.judge.proofs.order.wrapped_reason.Statement.{statement}
 use Rattle.judge.proofs.order.wrapped_reason.Tie as tie
 
@@ -24,7 +24,7 @@ part-descriptor-start c = search rules
 part-descriptor-end : tie.Need-slice-bounds-descriptor-end
 part-descriptor-end c =
     let c5 = c.before.before.before.before.before in
-    let f = descriptor-fits c5.args.command.now c5.args.facts _ c5.requires.3 c.cdb-len.ensures c5.requires.2 in
+    let f = descriptor_fits c5.args.command.now c5.args.facts _ c5.requires.3 c.cdb-len.ensures c5.requires.2 in
     omega (arith, f.2)
 
 form-reason-requires : tie.Need-form-reason-requires
@@ -40,7 +40,7 @@ bytes20-requires : tie.Need-bytes20-requires
 bytes20-requires c κs =
     let c5 = c.before.before.before.before.before in
     let c10 = c5.before.before.before.before.before in
-    let f = descriptor-fits c10.args.command.now c10.args.facts _ c10.requires.3 c5.cdb-len.ensures c10.requires.2 in
+    let f = descriptor_fits c10.args.command.now c10.args.facts _ c10.requires.3 c5.cdb-len.ensures c10.requires.2 in
     omega (arith, f.2)
 
 key-reason-requires : tie.Need-key-reason-requires
@@ -55,9 +55,9 @@ returns c =
     let c5 = c4.before in
     let c7 = c5.before.before in
     let c12 = c7.before.before.before.before.before in
-    let f = descriptor-fits c12.args.command.now c12.args.facts _ c12.requires.3 c7.cdb-len.ensures c12.requires.2 in
+    let f = descriptor_fits c12.args.command.now c12.args.facts _ c12.requires.3 c7.cdb-len.ensures c12.requires.2 in
     let a = c12.args in
-    wrapped-goes a.own.now a.keys.now a.command.now a.token.now a.clock _ c12.requires.4 _ c12.requires.3 _ (descriptor-lent a.command.now _ f.0) _ _ _ c5.form-reason.ensures c4.fact-reason.ensures c3.or_else.ensures c2.if1.true _ (c1.bytes20.ensures ∙ value_lent a.command.now _ f.0) _ (c.key-reason.ensures a.command.now c12.requires.3)
+    wrapped_goes a.own.now a.keys.now a.command.now a.token.now a.clock _ c12.requires.4 _ c12.requires.3 _ (descriptor_lent a.command.now _ f.0) _ _ _ c5.form-reason.ensures c4.fact-reason.ensures c3.or_else.ensures c2.if1.true _ (c1.bytes20.ensures ∙ value_lent a.command.now _ f.0) _ (c.key-reason.ensures a.command.now c12.requires.3)
 
 returns-2 : tie.Need-returns-2
 returns-2 c =
@@ -66,9 +66,9 @@ returns-2 c =
     let c3 = c2.before in
     let c5 = c3.before.before in
     let c10 = c5.before.before.before.before.before in
-    let f = descriptor-fits c10.args.command.now c10.args.facts _ c10.requires.3 c5.cdb-len.ensures c10.requires.2 in
+    let f = descriptor_fits c10.args.command.now c10.args.facts _ c10.requires.3 c5.cdb-len.ensures c10.requires.2 in
     let a = c10.args in
-    wrapped-stops a.own.now a.keys.now a.command.now a.token.now a.clock _ c10.requires.4 _ c10.requires.3 _ (descriptor-lent a.command.now _ f.0) _ _ _ c3.form-reason.ensures c2.fact-reason.ensures c1.or_else.ensures c.if1.false
+    wrapped_stops a.own.now a.keys.now a.command.now a.token.now a.clock _ c10.requires.4 _ c10.requires.3 _ (descriptor_lent a.command.now _ f.0) _ _ _ c3.form-reason.ensures c2.fact-reason.ensures c1.or_else.ensures c.if1.false
 
 pub wrapped-reason-spec : {M : Type 1} → statement M
 wrapped-reason-spec =

@@ -1,6 +1,6 @@
 -- The two codes that go by page, and no other.
 use borrow.Author.Rules.{rules}
-use Rattle.model.specs.RowLaws.{page-code}
+use Rattle.model.specs.RowLaws.{page_code}
 use Rattle.model.proofs.commands.page_need.Statement.{statement}
 use Rattle.model.proofs.commands.page_need.Tie as tie
 
@@ -14,7 +14,7 @@ out-page-need-requires : tie.Need-out-page-need-requires
 out-page-need-requires c κs = search rules
 
 returns-2 : tie.Need-returns-2
-returns-2 c = rw (page-code _ c.before.before.requires c.before.if1.false, c.out-page-need.ensures)
+returns-2 c = rw (page_code _ c.before.before.requires c.before.if1.false, c.out-page-need.ensures)
 
 pub page-need-spec : {M : Type 1} → statement M
 page-need-spec = tie.close (tie.spec in-page-need-requires returns out-page-need-requires returns-2)

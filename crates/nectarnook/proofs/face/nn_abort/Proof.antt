@@ -1,6 +1,6 @@
 -- The call's outcome, packed.
 use borrow.Author.Rules.{rules}
-use Rattle.nectarnook.specs.PackedLaws.{one-packed}
+use Rattle.nectarnook.specs.PackedLaws.{one_packed}
 use Rattle.nectarnook.proofs.face.nn_abort.Statement.{statement}
 use Rattle.nectarnook.proofs.face.nn_abort.Tie as tie
 
@@ -14,7 +14,7 @@ same_length : tie.Need-same-length
 same_length c = search rules
 
 returns : tie.Need-returns
-returns c = one-packed _ c.before.before.before.abort.result _ _ c.pack.ensures c.before.before.before.abort.ensures
+returns c = one_packed _ c.before.before.before.abort.result _ _ c.pack.ensures c.before.before.before.abort.ensures
 
 pub nn-abort-spec : {M : Type 1} → statement M
 nn-abort-spec = tie.close (tie.spec abort-requires pack-requires same_length returns)

@@ -1,6 +1,6 @@
 -- The call's outcome, packed.
 use borrow.Author.Rules.{rules}
-use Rattle.nectarnook.specs.PackedLaws.{out-packed}
+use Rattle.nectarnook.specs.PackedLaws.{out_packed}
 use Rattle.nectarnook.proofs.face.nn_close.Statement.{statement}
 use Rattle.nectarnook.proofs.face.nn_close.Tie as tie
 
@@ -17,7 +17,7 @@ same-length-2 : tie.Need-same-length-2
 same-length-2 c = search rules
 
 returns : tie.Need-returns
-returns c = out-packed _ c.before.before.before.before.before.«close».result.answer _ _ c.pack.ensures c.before.before.before.before.before.«close».ensures
+returns c = out_packed _ c.before.before.before.before.before.«close».result.answer _ _ c.pack.ensures c.before.before.before.before.before.«close».ensures
 
 pub nn-close-spec : {M : Type 1} → statement M
 nn-close-spec =

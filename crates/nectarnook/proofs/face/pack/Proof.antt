@@ -1,6 +1,6 @@
 -- Each arm is given which answer it is.
 use borrow.Author.Rules.{rules}
-use Rattle.nectarnook.specs.Packed.{packedBy}
+use Rattle.nectarnook.specs.Packed.{packed_by}
 use Rattle.nectarnook.proofs.face.pack.Statement.{statement}
 use Rattle.nectarnook.proofs.face.pack.Tie as tie
 
@@ -65,43 +65,43 @@ plain-requires-9 : tie.Need-plain-requires-9
 plain-requires-9 c κs = search rules
 
 returns : tie.Need-returns
-unfolding packedBy
+unfolding packed_by
 returns c = rw c.before.before.answer.given.1 c.plain.ensures
 
 returns-2 : tie.Need-returns-2
-unfolding packedBy
+unfolding packed_by
 returns-2 c = rw c.before.before.answer2.given.1 c.plain2.ensures
 
 returns-3 : tie.Need-returns-3
-unfolding packedBy
+unfolding packed_by
 returns-3 c = rw c.before.enum_told.given.1 c.plain3.ensures
 
 returns-4 : tie.Need-returns-4
-unfolding packedBy
+unfolding packed_by
 returns-4 c = rw c.before.before.answer3.given.1 c.laid.ensures
 
 returns-5 : tie.Need-returns-5
-unfolding packedBy
+unfolding packed_by
 returns-5 c = rw c.before.enum-told2.given.1 c.plain4.ensures
 
 returns-6 : tie.Need-returns-6
-unfolding packedBy
+unfolding packed_by
 returns-6 c = rw c.before.enum-told3.given.1 c.plain5.ensures
 
 returns-7 : tie.Need-returns-7
-unfolding packedBy
+unfolding packed_by
 returns-7 c = rw c.before.enum-told4.given.1 c.plain6.ensures
 
 returns-8 : tie.Need-returns-8
-unfolding packedBy
+unfolding packed_by
 returns-8 c = rw c.before.enum-told5.given.1 c.plain7.ensures
 
 returns-9 : tie.Need-returns-9
-unfolding packedBy
+unfolding packed_by
 returns-9 c = rw c.before.enum-told6.given.1 c.plain8.ensures
 
 returns-10 : tie.Need-returns-10
-unfolding packedBy
+unfolding packed_by
 returns-10 c = rw c.before.enum-told7.given.1 c.plain9.ensures
 
 pub pack-spec : {M : Type 1} → statement M

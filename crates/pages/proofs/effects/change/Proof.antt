@@ -1,5 +1,5 @@
 -- Setter by setter as the definition has it, and the check.
-use Rattle.pages.specs.StepLaws.{changed-steps}
+use Rattle.pages.specs.StepLaws.{changed_steps}
 use borrow.Author.Rules.{rules}
 use Rattle.pages.proofs.effects.change.Statement.{statement}
 use Rattle.pages.proofs.effects.change.Tie as tie
@@ -36,7 +36,7 @@ returns c =
     let c₂ = c₃.before.before.before.before in
     let c₁ = c₂.before.before.before.before in
     let c₀ = c₁.before.before in
-    changed-steps _ _ _ _ _ _ _ _ c₀.before.before.next-auth-key-of.ensures c₀.next-gen-key-of.ensures c₁.set-mask.ensures
+    changed_steps _ _ _ _ _ _ _ _ c₀.before.before.next-auth-key-of.ensures c₀.next-gen-key-of.ensures c₁.set-mask.ensures
     c₂.set-step.ensures c₃.set_pair.ensures c₄.clear-next-and-working.ensures c₅.seal-record.ensures
 
 pub change-spec : {M : Type 1} → statement M

@@ -1,5 +1,5 @@
 -- Setter by setter as the definition has it, and the check.
-use Rattle.pages.specs.StepLaws.{exchanged-steps}
+use Rattle.pages.specs.StepLaws.{exchanged_steps}
 use borrow.Author.Rules.{rules}
 use Rattle.pages.proofs.effects.exchange.Statement.{statement}
 use Rattle.pages.proofs.effects.exchange.Tie as tie
@@ -25,7 +25,7 @@ returns c =
     let c₂ = c₃.before.before.before.before in
     let c₁ = c₂.before.before.before.before in
     let p = c₁.before.before.before.before.next-pair.ensures in
-    exchanged-steps _ _ _ _ _ _ _ p.0 p.1 c₁.set-step.ensures c₂.set-next-pair.ensures c₃.seal-record.ensures
+    exchanged_steps _ _ _ _ _ _ _ p.0 p.1 c₁.set-step.ensures c₂.set-next-pair.ensures c₃.seal-record.ensures
 
 pub exchange-spec : {M : Type 1} → statement M
 exchange-spec =

@@ -1,7 +1,7 @@
 -- The sixteen bytes, copied, and the last one flipped.
 use mathlib.Core.Path.{refl}
-use Rattle.units.specs.UnitLaws.{identifier-length}
-use Rattle.pages.specs.StepLaws.{flipped-steps}
+use Rattle.units.specs.UnitLaws.{identifier_length}
+use Rattle.pages.specs.StepLaws.{flipped_steps}
 use native.Mathlib.Omega.{arith}
 use borrow.Author.Rules.{rules}
 use Rattle.pages.proofs.effects.flipped_identifier.Statement.{statement}
@@ -16,7 +16,7 @@ slice-aggregate-put c = search rules
 put-requires : tie.Need-put-requires
 put-requires c κs =
     let s = c.before.before.before in
-    rw c.before.identifier-of.ensures (omega (arith, identifier-length s.args.keys.now s.requires))
+    rw c.before.identifier-of.ensures (omega (arith, identifier_length s.args.keys.now s.requires))
 
 array-read-flip : tie.Need-array-read-flip
 array-read-flip c = search rules
@@ -32,7 +32,7 @@ returns c =
     let p = c.before.before in
     let i = p.before.before in
     let s = i.before.before in
-    flipped-steps s.args.keys.now _ _ _ _ s.requires refl i.identifier-of.ensures p.put.ensures c.flip.ensures
+    flipped_steps s.args.keys.now _ _ _ _ s.requires refl i.identifier-of.ensures p.put.ensures c.flip.ensures
 
 pub flipped-identifier-spec : {M : Type 1} → statement M
 flipped-identifier-spec =

@@ -1,6 +1,6 @@
 -- Two HMACs under one key; the bit that differs is the identifier's, and so the last byte's of S.
-use Rattle.pages.specs.Effects.{nextGen}
-use Rattle.pages.specs.StepLaws.{next-auth}
+use Rattle.pages.specs.Effects.{next_gen}
+use Rattle.pages.specs.StepLaws.{next_auth_lem}
 use borrow.Author.Rules.{rules}
 use Rattle.pages.proofs.effects.next_pair.Statement.{statement}
 use Rattle.pages.proofs.effects.next_pair.Tie as tie
@@ -30,13 +30,13 @@ hmac-of-two-requires-2 : tie.Need-hmac-of-two-requires-2
 hmac-of-two-requires-2 c κs = search rules
 
 returns : tie.Need-returns
-unfolding nextGen
+unfolding next_gen
 returns c =
     let c₁ = c.before.before.before in
     let c₀ = c₁.before.before.before in
     let s = c₀.before.before.before.before in
     let key = c₀.before.gen-key-of.ensures in
-    let auth = next-auth s.args.value.now s.args.keys.now s.requires in (
+    let auth = next_auth_lem s.args.value.now s.args.keys.now s.requires in (
       simp (c.hmac-of-two2.ensures, key, c₀.flipped-identifier.ensures, auth),
       simp (c₁.hmac-of-two.ensures, key, c₁.before.identifier-of.ensures),
     )

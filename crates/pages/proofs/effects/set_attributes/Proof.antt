@@ -1,7 +1,7 @@
 -- Method, tag and the check, with what stands at the front of the list.
 use mathlib.Core.Path.{refl}
-use Rattle.pages.specs.Effects.{attributesSet}
-use Rattle.pages.specs.FrontLaws.{attributes-obeyed}
+use Rattle.pages.specs.Effects.{attributes_set}
+use Rattle.pages.specs.FrontLaws.{attributes_obeyed}
 use borrow.Author.Rules.{rules}
 use Rattle.pages.proofs.effects.set_attributes.Statement.{statement}
 use Rattle.pages.proofs.effects.set_attributes.Tie as tie
@@ -22,13 +22,13 @@ same_length : tie.Need-same-length
 same_length c = search rules
 
 returns : tie.Need-returns
-unfolding attributesSet
+unfolding attributes_set
 returns c =
     let c₃ = c.before.before in
     let c₂ = c₃.before.before.before.before in
     let c₁ = c₂.before.before.before.before in
     let f = c₁.before.before.front_of.ensures in
-    attributes-obeyed _ _ _ f _ _ refl (simp (c₃.seal-record.ensures, c₂.set-tag.ensures, c₁.set-method.ensures))
+    attributes_obeyed _ _ _ f _ _ refl (simp (c₃.seal-record.ensures, c₂.set-tag.ensures, c₁.set-method.ensures))
 
 pub set-attributes-spec : {M : Type 1} → statement M
 set-attributes-spec =

@@ -1,5 +1,5 @@
 -- The mask with its bit, the key, and the check.
-use Rattle.pages.specs.StepLaws.{key-steps}
+use Rattle.pages.specs.StepLaws.{key_steps}
 use borrow.Author.Rules.{rules}
 use Rattle.pages.proofs.effects.set_key.Statement.{statement}
 use Rattle.pages.proofs.effects.set_key.Tie as tie
@@ -32,7 +32,7 @@ returns c =
     let c₁ = c₂.before.before.before.before in
     let c₀ = c₁.before.before in
     let k = c₀.before.before.before in
-    key-steps _ _ _ _ _ _ _ _ _ c₀.before.mask-of.ensures c₀.with-bit.ensures k.made-key.ensures c₁.set-mask.ensures
+    key_steps _ _ _ _ _ _ _ _ _ c₀.before.mask-of.ensures c₀.with-bit.ensures k.made-key.ensures c₁.set-mask.ensures
     c₂.set-working-key.ensures c₃.seal-record.ensures
 
 pub set-key-spec : {M : Type 1} → statement M

@@ -1,24 +1,24 @@
 -- Each arm's page picks its widths; a page of no arm has none.
 use mathlib.Core.Path.{refl}
 use borrow.Author.Tests.{ne_eqb}
-use Rattle.pages.specs.Front.{firstWidth, secondWidth, thirdWidth}
+use Rattle.pages.specs.Front.{first_width, second_width, third_width}
 use Rattle.pages.proofs.lists.widths_of.Statement.{statement}
 use Rattle.pages.proofs.lists.widths_of.Tie as tie
 
 returns : tie.Need-returns
-unfolding firstWidth secondWidth thirdWidth
+unfolding first_width second_width third_width
 returns c = rw c.match.keys1 (refl, refl, refl)
 
 returns-2 : tie.Need-returns-2
-unfolding firstWidth secondWidth thirdWidth
+unfolding first_width second_width third_width
 returns-2 c = rw c.match.keys2 (refl, refl, refl)
 
 returns-3 : tie.Need-returns-3
-unfolding firstWidth secondWidth thirdWidth
+unfolding first_width second_width third_width
 returns-3 c = rw c.match.keys3 (refl, refl, refl)
 
 returns-4 : tie.Need-returns-4
-unfolding firstWidth secondWidth thirdWidth
+unfolding first_width second_width third_width
 returns-4 c =
     let none = c.match.rest in
     simp (ne_eqb _ _ none.1, ne_eqb _ _ none.0.1, ne_eqb _ _ none.0.0.1) (refl, refl, refl)

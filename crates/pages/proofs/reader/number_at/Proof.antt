@@ -3,7 +3,7 @@ use mathlib.Core.Path.{◌≡◌}
 use Prim.Native.Nat.{◌≤◌, ◌<◌, ◌-◌, ◌^◌}
 use native.Mathlib.Omega.{arith}
 use Rattle.wire.specs.Bytes.{number}
-use Rattle.pages.specs.OutLaws.{number-empty, number_more, below_more, below-four}
+use Rattle.pages.specs.OutLaws.{number_empty, number_more, below_more, below_four}
 use borrow.Author.Rules.{rules}
 use Rattle.pages.proofs.reader.number_at.Statement.{statement}
 use Rattle.pages.proofs.reader.number_at.Tie as tie
@@ -15,10 +15,10 @@ abbrev decreases-loop : tie.decreases-loop
 decreases-loop list at n x₀ i₀ x i = n - i
 
 loop-holds : tie.Need-loop-init invariant-loop decreases-loop
-loop-holds c = (omega arith, omega arith, number-empty _ _)
+loop-holds c = (omega arith, omega arith, number_empty _ _)
 
 mul-x : tie.Need-overflow-mul-x invariant-loop decreases-loop
-mul-x c = omega (arith, below-four c.before.loop.i (omega arith))
+mul-x c = omega (arith, below_four c.before.loop.i (omega arith))
 
 add_at : tie.Need-overflow-add-at invariant-loop decreases-loop
 add_at c = search rules
@@ -30,7 +30,7 @@ cast-x : tie.Need-overflow-cast-x invariant-loop decreases-loop
 cast-x c = search rules
 
 add-x : tie.Need-overflow-add-x invariant-loop decreases-loop
-add-x c = omega (arith, below-four c.before.before.loop.i (omega arith))
+add-x c = omega (arith, below_four c.before.before.loop.i (omega arith))
 
 add-i : tie.Need-overflow-add-i invariant-loop decreases-loop
 add-i c = search rules

@@ -3,8 +3,8 @@ use mathlib.Core.Path.{sym}
 use native.Mathlib.Omega.{arith}
 use lib.ListN.{get_or-eq_default}
 use Rattle.wire.specs.Bytes.{bytes_of}
-use Rattle.pages.specs.In.{attributesPage}
-use Rattle.pages.specs.InLaws.{attributes-length, attributes-at}
+use Rattle.pages.specs.In.{attributes_page}
+use Rattle.pages.specs.InLaws.{attributes_length, attributes_at}
 use borrow.Author.Rules.{rules}
 use Rattle.pages.proofs.replies.attributes_at.Statement.{statement}
 use Rattle.pages.proofs.replies.attributes_at.Tie as tie
@@ -48,13 +48,13 @@ array-read-result c = search rules
 returns : tie.Need-returns
 unfolding bytes_of
 returns c =
-    attributes-at _ _ _ _ _ _ c.before.before.before.method-of.ensures c.before.before.tag_of.ensures c.before.mask-of.ensures
+    attributes_at _ _ _ _ _ _ c.before.before.before.method-of.ensures c.before.before.tag_of.ensures c.before.mask-of.ensures
 
 returns-2 : tie.Need-returns-2
 returns-2 c =
     let g = c.before.before.before.before.before.before.args in
-    let long = attributes-length g.own.now g.keys.now in
-    sym (get_or-eq_default (attributesPage g.own.now g.keys.now) 0 (omega arith))
+    let long = attributes_length g.own.now g.keys.now in
+    sym (get_or-eq_default (attributes_page g.own.now g.keys.now) 0 (omega arith))
 
 pub attributes-at-spec : {M : Type 1} → statement M
 attributes-at-spec =

@@ -1,9 +1,9 @@
 -- The head is the page's first four bytes, and the rows stand behind it.
 use mathlib.Core.Path.{sym, ◌∙◌}
 use Rattle.model.specs.Controlled.{controlled}
-use Rattle.model.specs.Protocol.{controlledIn}
-use Rattle.pages.specs.In.{controlledPage}
-use Rattle.pages.specs.InLaws.{framed_at, controlled-head}
+use Rattle.model.specs.Protocol.{controlled_in}
+use Rattle.pages.specs.In.{controlled_page}
+use Rattle.pages.specs.InLaws.{framed_at, controlled_head}
 use borrow.Author.Rules.{rules}
 use Rattle.pages.proofs.replies.controlled_page_at.Statement.{statement}
 use Rattle.pages.proofs.replies.controlled_page_at.Tie as tie
@@ -15,11 +15,11 @@ controlled-at-requires : tie.Need-controlled-at-requires
 controlled-at-requires c κs = search rules
 
 returns : tie.Need-returns
-returns c = controlled-head _ (search rules)
+returns c = controlled_head _ (search rules)
 
 returns-2 : tie.Need-returns-2
-unfolding controlledPage
-returns-2 c = c.controlled-at.ensures ∙ sym (framed_at controlledIn controlled _ (search rules))
+unfolding controlled_page
+returns-2 c = c.controlled-at.ensures ∙ sym (framed_at controlled_in controlled _ (search rules))
 
 pub controlled-page-at-spec : {M : Type 1} → statement M
 controlled-page-at-spec =

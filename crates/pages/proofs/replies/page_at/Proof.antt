@@ -1,6 +1,6 @@
 -- Each arm's page picks its list; a page of no arm has no byte.
 use borrow.Author.Tests.{ne_eqb}
-use Rattle.pages.specs.In.{inPage}
+use Rattle.pages.specs.In.{in_page}
 use borrow.Author.Rules.{rules}
 use Rattle.pages.proofs.replies.page_at.Statement.{statement}
 use Rattle.pages.proofs.replies.page_at.Tie as tie
@@ -21,27 +21,27 @@ controlled-page-at-requires : tie.Need-controlled-page-at-requires
 controlled-page-at-requires c κs = search rules
 
 returns : tie.Need-returns
-unfolding inPage
+unfolding in_page
 returns c = rw c.before.match.keys1 c.supported-in-at.ensures
 
 returns-2 : tie.Need-returns-2
-unfolding inPage
+unfolding in_page
 returns-2 c = rw c.before.match.keys2 c.supported-out-at.ensures
 
 returns-3 : tie.Need-returns-3
-unfolding inPage
+unfolding in_page
 returns-3 c = rw c.before.match.keys3 c.capabilities-at.ensures
 
 returns-4 : tie.Need-returns-4
-unfolding inPage
-returns-4 c = rw c.before.match.keys4 c.attributes-at.ensures
+unfolding in_page
+returns-4 c = rw c.before.match.keys4 c.attributes_at.ensures
 
 returns-5 : tie.Need-returns-5
-unfolding inPage
+unfolding in_page
 returns-5 c = rw c.before.match.keys5 c.controlled-page-at.ensures
 
 returns-6 : tie.Need-returns-6
-unfolding inPage
+unfolding in_page
 returns-6 c =
     let none = c.match.rest in
     simp (ne_eqb _ _ none.1, ne_eqb _ _ none.0.1, ne_eqb _ _ none.0.0.1, ne_eqb _ _ none.0.0.0.1, ne_eqb _ _ none.0.0.0.0.1)

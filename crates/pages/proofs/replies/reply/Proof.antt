@@ -1,7 +1,7 @@
 -- The count is that of the reply, and so many bytes of the page are the reply.
 use native.Mathlib.Nat.{min-le_right}
 use borrow.Author.Rules.{rules}
-use Rattle.pages.specs.InLaws.{count-reply, reply-length}
+use Rattle.pages.specs.InLaws.{count_reply, reply_length}
 use Rattle.pages.proofs.replies.reply.Statement.{statement}
 use Rattle.pages.proofs.replies.reply.Tie as tie
 
@@ -23,8 +23,8 @@ returns c =
     let k = w.before.before in
     let n = k.page-count.ensures in
     let g = k.before.before.before.before.args in (
-      simp (n, reply-length g.page g.allocation g.own.now g.keys.now),
-      simp (w.write-page.ensures, n, count-reply g.page g.allocation g.own.now g.keys.now),
+      simp (n, reply_length g.page g.allocation g.own.now g.keys.now),
+      simp (w.write-page.ensures, n, count_reply g.page g.allocation g.own.now g.keys.now),
     )
 
 pub reply-spec : {M : Type 1} → statement M

@@ -3,8 +3,8 @@ use mathlib.Core.Path.{refl, sym}
 use native.Mathlib.Omega.{arith}
 use lib.ListN.{get_or-eq_default}
 use Rattle.wire.specs.Bytes.{bytes_of}
-use Rattle.pages.specs.In.{supportedOut}
-use Rattle.pages.specs.InLaws.{supported-out-length}
+use Rattle.pages.specs.In.{supported_out}
+use Rattle.pages.specs.InLaws.{supported_out_length}
 use borrow.Author.Rules.{rules}
 use Rattle.pages.proofs.replies.supported_out_at.Statement.{statement}
 use Rattle.pages.proofs.replies.supported_out_at.Tie as tie
@@ -13,11 +13,11 @@ array-read-result : tie.Need-array-read-result
 array-read-result c = search rules
 
 returns : tie.Need-returns
-unfolding supportedOut bytes_of
+unfolding supported_out bytes_of
 returns c = refl
 
 returns-2 : tie.Need-returns-2
-returns-2 c = sym (get_or-eq_default supportedOut 0 (omega (arith, supported-out-length)))
+returns-2 c = sym (get_or-eq_default supported_out 0 (omega (arith, supported_out_length)))
 
 pub supported-out-at-spec : {M : Type 1} → statement M
 supported-out-at-spec = tie.close (tie.spec array-read-result returns returns-2)

@@ -4,16 +4,16 @@ use mathlib.Core.List.{◌++◌}
 use Prim.Native.Nat.{◌≤◌, ◌-◌}
 use native.Mathlib.Omega.{arith}
 use lib.ListN.{length, take, drop, length-set}
-use Rattle.pages.specs.CopyLaws.{copy_more, copy-patch}
-use Rattle.pages.specs.In.{inPage}
-use Rattle.pages.specs.InLaws.{page-size, size_small}
+use Rattle.pages.specs.CopyLaws.{copy_more, copy_patch}
+use Rattle.pages.specs.In.{in_page}
+use Rattle.pages.specs.InLaws.{page_size, size_small}
 use borrow.Author.Rules.{rules}
 use Rattle.pages.proofs.replies.write_page.Statement.{statement}
 use Rattle.pages.proofs.replies.write_page.Tie as tie
 
 abbrev invariant-loop : tie.invariant-loop
 invariant-loop reply₀ page own keys count n i₀ reply i =
-    (i ≤ n) × (n ≡ count) × (length reply ≡ length reply₀) × (reply ≡ take i (inPage page own keys) ++ drop i reply₀)
+    (i ≤ n) × (n ≡ count) × (length reply ≡ length reply₀) × (reply ≡ take i (in_page page own keys) ++ drop i reply₀)
 
 abbrev decreases-loop : tie.decreases-loop
 decreases-loop reply₀ page own keys count n i₀ reply i = n - i
@@ -37,8 +37,8 @@ loop-again : tie.Need-loop-preserved invariant-loop decreases-loop
 loop-again c =
     let l = c.before.before.loop in
     let g = c.before.before.before.before.before.before.args in
-    let page = inPage g.page g.own.now g.keys.now in
-    let long = page-size g.page g.own.now g.keys.now in
+    let page = in_page g.page g.own.now g.keys.now in
+    let long = page_size g.page g.own.now g.keys.now in
     let short = size_small g.page in (
       omega arith,
       l.invariant.1,
@@ -53,10 +53,10 @@ returns : tie.Need-returns invariant-loop decreases-loop
 returns c =
     let l = c.before.loop in
     let g = c.before.before.before.before.before.args in
-    let page = inPage g.page g.own.now g.keys.now in
-    let long = page-size g.page g.own.now g.keys.now in
+    let page = in_page g.page g.own.now g.keys.now in
+    let long = page_size g.page g.own.now g.keys.now in
     let e : l.i ≡ g.count = omega arith in
-    l.invariant.3 ∙ rw e (copy-patch g.reply.now page g.count (omega arith))
+    l.invariant.3 ∙ rw e (copy_patch g.reply.now page g.count (omega arith))
 
 pub write-page-spec : {M : Type 1} → statement M
 write-page-spec =

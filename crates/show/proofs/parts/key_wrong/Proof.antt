@@ -1,7 +1,7 @@
 -- Not valid, and not zero.
 use mathlib.Core.Path.{◌∙◌, ap, ap₂}
-use Rattle.units.specs.Unit.{isValid}
-use Rattle.show.specs.Parts.{keyWrong}
+use Rattle.units.specs.Unit.{is_valid}
+use Rattle.show.specs.Parts.{key_wrong}
 use borrow.Author.Rules.{rules}
 use Rattle.show.proofs.parts.key_wrong.Statement.{statement}
 use Rattle.show.proofs.parts.key_wrong.Tie as tie
@@ -25,7 +25,7 @@ or-requires : tie.Need-or-requires
 or-requires c κs = search rules
 
 returns : tie.Need-returns
-unfolding keyWrong isValid
+unfolding key_wrong is_valid
 returns c =
     let b1 = c.before in let b2 = b1.before in let b3 = b2.before in
     rw (c.or.ensures, b2.has-bit.ensures, b1.are-zeros.ensures, b3.mask-of.ensures)

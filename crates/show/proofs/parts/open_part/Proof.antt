@@ -1,7 +1,7 @@
 -- The tests are those of the definition.
 use mathlib.Core.Path.{◌∙◌, ap}
-use Rattle.show.specs.Parts.{openPart}
-use Rattle.slots.specs.Slot.{commandLength, tokenLength, slotUnit, stateNumber}
+use Rattle.show.specs.Parts.{open_part}
+use Rattle.slots.specs.Slot.{command_length, token_length, slot_unit, state_number}
 use borrow.Author.Rules.{rules}
 use Rattle.show.proofs.parts.open_part.Statement.{statement}
 use Rattle.show.proofs.parts.open_part.Tie as tie
@@ -61,7 +61,7 @@ slot-unless-requires-5 : tie.Need-slot-unless-requires-5
 slot-unless-requires-5 c κs = search rules
 
 returns : tie.Need-returns
-unfolding openPart commandLength tokenLength slotUnit stateNumber
+unfolding open_part command_length token_length slot_unit state_number
 returns c =
     let b1 = c.before in let b2 = b1.before in let b3 = b2.before in let b4 = b3.before in let b5 = b4.before in
     let b6 = b5.before in let b7 = b6.before in let b8 = b7.before in let b9 = b8.before in let b10 = b9.before in
@@ -79,7 +79,7 @@ returns c =
       b10.and.ensures,
       b9.space-part.ensures,
       b11.legal-len.ensures,
-      b12.data-out.ensures,
+      b12.data_out_lem.ensures,
       b13.at.ensures,
       b14.be162.ensures,
       b15.be16.ensures,

@@ -1,6 +1,6 @@
 -- The tests are those of the definition.
-use Rattle.units.specs.Unit.{layout, unitNumber}
-use Rattle.show.specs.Parts.{recordPart}
+use Rattle.units.specs.Unit.{layout, unit_number}
+use Rattle.show.specs.Parts.{record_part}
 use borrow.Author.Rules.{rules}
 use Rattle.show.proofs.parts.record_part.Statement.{statement}
 use Rattle.show.proofs.parts.record_part.Tie as tie
@@ -42,7 +42,7 @@ unit-unless-requires-5 : tie.Need-unit-unless-requires-5
 unit-unless-requires-5 c κs = search rules
 
 returns : tie.Need-returns
-unfolding recordPart layout unitNumber
+unfolding record_part layout unit_number
 returns c =
     let b1 = c.before in let b2 = b1.before in let b3 = b2.before in let b4 = b3.before in let b5 = b4.before in
     let b6 = b5.before in let b7 = b6.before in let b8 = b7.before in let b9 = b8.before in let b10 = b9.before in

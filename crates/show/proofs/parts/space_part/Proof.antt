@@ -1,7 +1,7 @@
 -- The tests are those of the definition.
 use mathlib.Core.Path.{◌∙◌, ap}
-use Rattle.show.specs.Parts.{spacePart}
-use Rattle.slots.specs.Slot.{commandLength, tokenLength}
+use Rattle.show.specs.Parts.{space_part}
+use Rattle.slots.specs.Slot.{command_length, token_length}
 use borrow.Author.Rules.{rules}
 use Rattle.show.proofs.parts.space_part.Statement.{statement}
 use Rattle.show.proofs.parts.space_part.Tie as tie
@@ -31,7 +31,7 @@ slot-unless-requires-2 : tie.Need-slot-unless-requires-2
 slot-unless-requires-2 c κs = search rules
 
 returns : tie.Need-returns
-unfolding spacePart commandLength tokenLength
+unfolding space_part command_length token_length
 returns c =
     let b1 = c.before in let b2 = b1.before in let b3 = b2.before in let b4 = b3.before in let b5 = b4.before in
     rw (

@@ -1,6 +1,6 @@
 -- The tests are those of the definition.
-use Rattle.units.specs.Unit.{nextPairZero, unnamedZero}
-use Rattle.show.specs.Parts.{tailPart}
+use Rattle.units.specs.Unit.{next_pair_zero, unnamed_zero}
+use Rattle.show.specs.Parts.{tail_part}
 use borrow.Author.Rules.{rules}
 use Rattle.show.proofs.parts.tail_part.Statement.{statement}
 use Rattle.show.proofs.parts.tail_part.Tie as tie
@@ -30,7 +30,7 @@ unit-unless-requires-3 : tie.Need-unit-unless-requires-3
 unit-unless-requires-3 c κs = search rules
 
 returns : tie.Need-returns
-unfolding tailPart nextPairZero unnamedZero
+unfolding tail_part next_pair_zero unnamed_zero
 returns c =
     let b1 = c.before in let b2 = b1.before in let b3 = b2.before in let b4 = b3.before in let b5 = b4.before in
     let b6 = b5.before in let b7 = b6.before in

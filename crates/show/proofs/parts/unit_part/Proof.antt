@@ -1,8 +1,8 @@
 -- The record is unsound, and then its part.
 use mathlib.Core.Path.{◌∙◌, ap}
 use lib.ListN.{length}
-use Rattle.units.specs.UnitLaws.{unit-length}
-use Rattle.show.specs.Parts.{unitPart}
+use Rattle.units.specs.UnitLaws.{unit_length}
+use Rattle.show.specs.Parts.{unit_part}
 use borrow.Author.Rules.{rules}
 use Rattle.show.proofs.parts.unit_part.Statement.{statement}
 use Rattle.show.proofs.parts.unit_part.Tie as tie
@@ -13,7 +13,7 @@ record-of-requires c κs = search rules
 record-part-requires : tie.Need-record-part-requires
 record-part-requires c κs =
     let s = c.before.before in
-    ap length c.record_of.ensures ∙ unit-length s.args.unit.0 s.args.units.now s.requires.0 s.requires.1
+    ap length c.record_of.ensures ∙ unit_length s.args.unit.0 s.args.units.now s.requires.0 s.requires.1
 
 unit-state-requires : tie.Need-unit-state-requires
 unit-state-requires c κs = search rules
@@ -25,7 +25,7 @@ unit-unless-requires : tie.Need-unit-unless-requires
 unit-unless-requires c κs = search rules
 
 returns : tie.Need-returns
-unfolding unitPart
+unfolding unit_part
 returns c =
     let b1 = c.before in let b2 = b1.before in let b3 = b2.before in let b4 = b3.before in
     rw (c.unit-unless.ensures, b1.is-unsound-unit.ensures, b2.unit-state.ensures, b3.record-part.ensures, b4.record_of.ensures)

@@ -2,14 +2,14 @@
 use mathlib.Core.Path.{◌≡◌, ◌∙◌, sym, refl}
 use Prim.Native.Nat.{◌≤◌, ◌-◌}
 use native.Mathlib.Omega.{arith}
-use Rattle.show.specs.Parts.{wrongKey}
-use Rattle.show.specs.PartLaws.{wrong-found, wrong-further, wrong-none}
+use Rattle.show.specs.Parts.{wrong_key}
+use Rattle.show.specs.PartLaws.{wrong_found, wrong_further, wrong_none}
 use borrow.Author.Rules.{rules}
 use Rattle.show.proofs.parts.wrong_key.Statement.{statement}
 use Rattle.show.proofs.parts.wrong_key.Tie as tie
 
 abbrev invariant-loop : tie.invariant-loop
-invariant-loop rec v₀ v = (v ≤ 16) × (wrongKey (16 - v) v rec ≡ wrongKey 16 0 rec)
+invariant-loop rec v₀ v = (v ≤ 16) × (wrong_key (16 - v) v rec ≡ wrong_key 16 0 rec)
 
 abbrev decreases-loop : tie.decreases-loop
 decreases-loop rec v₀ v = 16 - v
@@ -24,7 +24,7 @@ returns : tie.Need-returns invariant-loop decreases-loop
 returns c =
     let g = c.before.before.before.before.before.args in
     let l = c.before.before.before.loop in
-    sym (wrong-found l.v g.rec.now (omega arith) (sym c.before.key-wrong.ensures ∙ c.if1.true)) ∙ l.invariant.1
+    sym (wrong_found l.v g.rec.now (omega arith) (sym c.before.key-wrong.ensures ∙ c.if1.true)) ∙ l.invariant.1
 
 add-v : tie.Need-overflow-add-v invariant-loop decreases-loop
 add-v c = search rules
@@ -36,13 +36,13 @@ loop-again : tie.Need-loop-preserved invariant-loop decreases-loop
 loop-again c =
     let g = c.before.before.before.before.before.args in
     let l = c.before.before.before.loop in
-    (omega arith, sym (wrong-further l.v g.rec.now (omega arith) (sym c.before.key-wrong.ensures ∙ c.if1.false)) ∙ l.invariant.1)
+    (omega arith, sym (wrong_further l.v g.rec.now (omega arith) (sym c.before.key-wrong.ensures ∙ c.if1.false)) ∙ l.invariant.1)
 
 returns-2 : tie.Need-returns-2 invariant-loop decreases-loop
 returns-2 c =
     let g = c.before.before.before.args in
     let l = c.before.loop in
-    sym (wrong-none l.v g.rec.now (omega arith)) ∙ l.invariant.1
+    sym (wrong_none l.v g.rec.now (omega arith)) ∙ l.invariant.1
 
 pub wrong-key-spec : {M : Type 1} → statement M
 wrong-key-spec =

@@ -1,7 +1,7 @@
 -- The record has 512 bytes.
 use mathlib.Core.Path.{◌∙◌, ap}
 use lib.ListN.{length}
-use Rattle.slots.specs.TableLaws.{slot-length}
+use Rattle.slots.specs.TableLaws.{slot_length}
 use borrow.Author.Rules.{rules}
 use Rattle.show.proofs.slot.put_there.Statement.{statement}
 use Rattle.show.proofs.slot.put_there.Tie as tie
@@ -16,7 +16,7 @@ slot-state-requires : tie.Need-slot-state-requires
 slot-state-requires c κs =
     let f = c in
     let s = f.before.before.before.before in
-    ap length f.record_of.ensures ∙ slot-length s.args.slot.0 s.args.slots.now s.requires.0 s.requires.1
+    ap length f.record_of.ensures ∙ slot_length s.args.slot.0 s.args.slots.now s.requires.0 s.requires.1
 
 slice-aggregate-put-title : tie.Need-slice-aggregate-put-title
 slice-aggregate-put-title c = search rules

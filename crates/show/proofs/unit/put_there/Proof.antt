@@ -1,7 +1,7 @@
 -- The record has 512 bytes.
 use mathlib.Core.Path.{◌∙◌, ap}
 use lib.ListN.{length}
-use Rattle.units.specs.UnitLaws.{unit-length}
+use Rattle.units.specs.UnitLaws.{unit_length}
 use borrow.Author.Rules.{rules}
 use Rattle.show.proofs.unit.put_there.Statement.{statement}
 use Rattle.show.proofs.unit.put_there.Tie as tie
@@ -25,7 +25,7 @@ put-record-requires : tie.Need-put-record-requires
 put-record-requires c κs =
     let f = c.before.before.before.before.before.before in
     let s = f.before.before.before.before.before in
-    ap length f.record_of.ensures ∙ unit-length s.args.unit.0 s.args.units.now s.requires.0 s.requires.1
+    ap length f.record_of.ensures ∙ unit_length s.args.unit.0 s.args.units.now s.requires.0 s.requires.1
 
 same_length : tie.Need-same-length
 same_length c = search rules

@@ -3,26 +3,26 @@ use mathlib.Core.Path.{◌≡◌, ◌∙◌, sym, ap}
 use Prim.Native.Nat.{◌+◌, ◌*◌, ◌≤◌, ◌-◌}
 use native.Mathlib.Omega.{arith}
 use lib.ListN.{length}
-use Rattle.text.specs.Decimal.{decimalOf}
-use Rattle.text.specs.HexLaws.{value-most}
-use Rattle.text.specs.DecimalLaws.{decimal-grows, decimal-next}
+use Rattle.text.specs.Decimal.{decimal_of}
+use Rattle.text.specs.HexLaws.{value_most}
+use Rattle.text.specs.DecimalLaws.{decimal_grows, decimal_next}
 use mathlib.Core.Bool.{Bool}
 use Prim.Native.Nat.{ℕ}
 use borrow.Author.Tests.{le-leb}
 use Rattle.choice.specs.Choice.{pick}
-use Rattle.text.specs.DecimalLaws.{decimal-none, exceeds}
+use Rattle.text.specs.DecimalLaws.{decimal_none, exceeds}
 use borrow.Author.Rules.{rules}
 use Rattle.text.proofs.decimal.number_of.Statement.{statement}
 use Rattle.text.proofs.decimal.number_of.Tie as tie
 
 abbrev invariant-loop : tie.invariant-loop
-invariant-loop word most said₀ i₀ said i = (i ≤ length word) × ((said ≡ decimalOf i word) × (said ≤ most))
+invariant-loop word most said₀ i₀ said i = (i ≤ length word) × ((said ≡ decimal_of i word) × (said ≤ most))
 
 abbrev decreases-loop : tie.decreases-loop
 decreases-loop word most said₀ i₀ said i = length word - i
 
 loop-holds : tie.Need-loop-init invariant-loop decreases-loop
-loop-holds c = let g = c.before.args in (omega arith, (sym (decimal-none g.word.now), omega arith))
+loop-holds c = let g = c.before.args in (omega arith, (sym (decimal_none g.word.now), omega arith))
 
 shared-slice-read-value : tie.Need-shared-slice-read-value invariant-loop decreases-loop
 shared-slice-read-value c = search rules
@@ -43,7 +43,7 @@ returns c =
     let w = g.word.now in
     let f = exceeds w (length w) l.i g.most (omega arith) (omega arith) in
     let e = c.too_large.ensures in
-    (e.1 ∙ sym f, (e.0 ∙ ap (λ (b : Bool). pick b (decimalOf (length w) w) 0) (sym e.1), omega arith))
+    (e.1 ∙ sym f, (e.0 ∙ ap (λ (b : Bool). pick b (decimal_of (length w) w) 0) (sym e.1), omega arith))
 
 mul-if2 : tie.Need-overflow-mul-if2 invariant-loop decreases-loop
 mul-if2 c = search rules
@@ -61,7 +61,7 @@ returns-2 c =
     let w = g.word.now in
     let f = exceeds w (length w) l.i g.most (omega arith) (omega arith) in
     let e = c.too-large2.ensures in
-    (e.1 ∙ sym f, (e.0 ∙ ap (λ (b : Bool). pick b (decimalOf (length w) w) 0) (sym e.1), omega arith))
+    (e.1 ∙ sym f, (e.0 ∙ ap (λ (b : Bool). pick b (decimal_of (length w) w) 0) (sym e.1), omega arith))
 
 mul-said : tie.Need-overflow-mul-said invariant-loop decreases-loop
 mul-said c = search rules
@@ -80,7 +80,7 @@ loop-again c =
     let g = c.before.before.before.before.before.before.before.args in
     let l = c.before.before.before.before.before.loop in
     let d = c.before.before.value.ensures in
-    (omega arith, (omega (arith, decimal-next l.i g.word.now, d, l.invariant.1.0), omega arith))
+    (omega arith, (omega (arith, decimal_next l.i g.word.now, d, l.invariant.1.0), omega arith))
 
 returns-3 : tie.Need-returns-3 invariant-loop decreases-loop
 returns-3 c =
@@ -88,8 +88,8 @@ returns-3 c =
     let l = c.before.loop in
     let w = g.word.now in
     let e : l.i ≡ length w = omega arith in
-    let f : l.said ≡ decimalOf (length w) w = l.invariant.1.0 ∙ ap (λ (k : ℕ). decimalOf k w) e in
-    (sym (le-leb (decimalOf (length w) w) g.most (omega arith)), (f, omega arith))
+    let f : l.said ≡ decimal_of (length w) w = l.invariant.1.0 ∙ ap (λ (k : ℕ). decimal_of k w) e in
+    (sym (le-leb (decimal_of (length w) w) g.most (omega arith)), (f, omega arith))
 
 pub number-of-spec : {M : Type 1} → statement M
 number-of-spec =

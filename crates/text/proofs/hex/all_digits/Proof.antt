@@ -3,8 +3,8 @@ use mathlib.Core.Path.{◌≡◌, ◌∙◌, sym, ap}
 use Prim.Native.Nat.{◌≤◌, ◌-◌}
 use native.Mathlib.Omega.{arith}
 use lib.ListN.{length}
-use Rattle.text.specs.Hex.{allDigits}
-use Rattle.text.specs.HexLaws.{all-next}
+use Rattle.text.specs.Hex.{all_digits}
+use Rattle.text.specs.HexLaws.{all_next}
 use Rattle.text.specs.HexLaws.{all_none}
 use mathlib.Core.Path.{ap₂}
 use mathlib.Core.Bool.{Bool}
@@ -16,7 +16,7 @@ use Rattle.text.proofs.hex.all_digits.Statement.{statement}
 use Rattle.text.proofs.hex.all_digits.Tie as tie
 
 abbrev invariant-loop : tie.invariant-loop
-invariant-loop s base all₀ i₀ all i = (i ≤ length s) × (all ≡ allDigits base i s)
+invariant-loop s base all₀ i₀ all i = (i ≤ length s) × (all ≡ all_digits base i s)
 
 abbrev decreases-loop : tie.decreases-loop
 decreases-loop s base all₀ i₀ all i = length s - i
@@ -45,7 +45,7 @@ loop-again c =
     let l = c.before.before.before.before.loop in (
       omega arith,
       c.and.ensures ∙ ap₂ (λ (a : Bool) (x : ℕ). both a (ltb x g.base)) l.invariant.1 c.before.value.ensures
-          ∙ sym (all-next g.base l.i g.s.now),
+          ∙ sym (all_next g.base l.i g.s.now),
     )
 
 returns : tie.Need-returns invariant-loop decreases-loop
@@ -53,7 +53,7 @@ returns c =
     let g = c.before.before.before.args in
     let l = c.before.loop in
     let e : l.i ≡ length g.s.now = omega arith in
-    l.invariant.1 ∙ ap (λ (k : ℕ). allDigits g.base k g.s.now) e
+    l.invariant.1 ∙ ap (λ (k : ℕ). all_digits g.base k g.s.now) e
 
 pub all-digits-spec : {M : Type 1} → statement M
 all-digits-spec =

@@ -1,5 +1,5 @@
 -- The three tests are those of the definition.
-use Rattle.text.specs.Hex.{arePairs}
+use Rattle.text.specs.Hex.{are_pairs}
 use mathlib.Core.Path.{◌∙◌, ap}
 use mathlib.Core.Bool.{not}
 use Prim.Native.Nat.{◌%◌}
@@ -20,7 +20,7 @@ and-requires-2 : tie.Need-and-requires-2
 and-requires-2 c κs = search rules
 
 returns : tie.Need-returns
-unfolding arePairs
+unfolding are_pairs
 returns c =
     let s = c.before.before.before.before.args.s.now in
     c.and2.ensures ∙ ap (both (not (eqb (length s) 0))) (c.before.and.ensures ∙ ap (both (eqb (length s % 2) 0)) c.before.before.all_digits.ensures)

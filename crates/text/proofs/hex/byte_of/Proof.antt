@@ -1,6 +1,6 @@
 -- Both digits say a value below 16.
 use native.Mathlib.Omega.{arith}
-use Rattle.text.specs.HexLaws.{digit-below}
+use Rattle.text.specs.HexLaws.{digit_below}
 use Prim.Native.Nat.{◌*◌}
 use lib.ListN.{length}
 use Prim.Native.Nat.{◌+◌}
@@ -33,7 +33,7 @@ mul-result : tie.Need-overflow-mul-result
 mul-result c =
     let g = c.before.before.before.before.before.args in
     let s = g.s.now in
-    let d = digit-below 16 (length s) s (2 * g.i) c.before.before.before.before.before.requires.1 (omega arith) in
+    let d = digit_below 16 (length s) s (2 * g.i) c.before.before.before.before.before.requires.1 (omega arith) in
     let e = c.before.before.value.ensures in
     omega arith
 
@@ -42,8 +42,8 @@ add-result c =
     let g = c.before.before.before.before.before.args in
     let s = g.s.now in
     let p = c.before.before.before.before.before.requires in
-    let d = digit-below 16 (length s) s (2 * g.i) p.1 (omega arith) in
-    let f = digit-below 16 (length s) s (2 * g.i + 1) p.1 (omega arith) in
+    let d = digit_below 16 (length s) s (2 * g.i) p.1 (omega arith) in
+    let f = digit_below 16 (length s) s (2 * g.i + 1) p.1 (omega arith) in
     let e = c.before.before.value.ensures in
     let h = c.value2.ensures in
     omega arith

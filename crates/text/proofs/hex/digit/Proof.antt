@@ -1,7 +1,7 @@
 -- Below ten a numeral, from ten on a letter.
 use native.Mathlib.Omega.{arith}
 use borrow.Author.Tests.{lt-ltb, le-ltb}
-use Rattle.text.specs.HexLaws.{digit-numeral, digit-letter}
+use Rattle.text.specs.HexLaws.{digit_numeral, digit_letter}
 use mathlib.Core.Path.{◌∙◌, sym}
 use borrow.Author.Rules.{rules}
 use Rattle.text.proofs.hex.digit.Statement.{statement}
@@ -14,10 +14,10 @@ add-result-2 : tie.Need-overflow-add-result-2
 add-result-2 c = search rules
 
 returns : tie.Need-returns
-returns c = sym (digit-numeral _ _ (omega arith) ∙ omega arith)
+returns c = sym (digit_numeral _ _ (omega arith) ∙ omega arith)
 
 returns-2 : tie.Need-returns-2
-returns-2 c = sym (digit-letter _ _ (omega arith) ∙ omega arith)
+returns-2 c = sym (digit_letter _ _ (omega arith) ∙ omega arith)
 
 pub digit-spec : {M : Type 1} → statement M
 digit-spec = tie.close (tie.spec add-result add-result-2 returns returns-2)

@@ -5,9 +5,9 @@ use mathlib.Core.Path.{ap}
 use Prim.Native.Nat.{ℕ}
 use native.Mathlib.Omega.{arith}
 use lib.ListN.{length}
-use Rattle.wire.specs.PatchLaws.{patch-all}
-use Rattle.text.specs.Hex.{digitsOf}
-use Rattle.text.specs.HexLaws.{digits-length}
+use Rattle.wire.specs.PatchLaws.{patch_all}
+use Rattle.text.specs.Hex.{digits_of}
+use Rattle.text.specs.HexLaws.{digits_length}
 use mathlib.Core.Path.{◌≡◌}
 use borrow.Author.Rules.{rules}
 use Rattle.text.proofs.hex.hex20.Statement.{statement}
@@ -26,8 +26,8 @@ returns : tie.Need-returns
 returns c =
     let d = c.before.before.before.before.args.t1 in
     let n : length d ≡ 20 = search rules in
-    c.before.put_all_lem.ensures ∙ patch-all _ (digitsOf (length d) d) (omega (arith, digits-length (length d) d)) ∙ ap (λ (k : ℕ).
-    digitsOf k d) n
+    c.before.put_all_lem.ensures ∙ patch_all _ (digits_of (length d) d) (omega (arith, digits_length (length d) d)) ∙ ap (λ (k : ℕ).
+    digits_of k d) n
 
 pub hex20-spec : {M : Type 1} → statement M
 hex20-spec =

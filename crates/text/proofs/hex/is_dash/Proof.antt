@@ -1,5 +1,5 @@
 -- The two tests are those of the definition.
-use Rattle.text.specs.Hex.{isDash}
+use Rattle.text.specs.Hex.{is_dash}
 use mathlib.Core.Path.{◌∙◌, ap}
 use Prim.Native.Nat.{ℕ}
 use lib.Dec.{eqb}
@@ -16,7 +16,7 @@ and-requires : tie.Need-and-requires
 and-requires c κs = search rules
 
 returns : tie.Need-returns
-unfolding isDash
+unfolding is_dash
 returns c =
     c.and.ensures ∙ ap (λ (x : ℕ). both (eqb (length c.before.before.before.args.s.now) 1) (eqb x 0x2d)) c.before.at.ensures
 

@@ -4,22 +4,22 @@ use Prim.Native.Nat.{◌+◌, ◌*◌, ◌≤◌, ◌-◌}
 use native.Mathlib.Omega.{arith}
 use lib.ListN.{length}
 use Rattle.wire.specs.Bytes.{patch}
-use Rattle.text.specs.Hex.{digitsOf}
-use Rattle.text.specs.HexLaws.{digits-length, digits-next}
+use Rattle.text.specs.Hex.{digits_of}
+use Rattle.text.specs.HexLaws.{digits_length, digits_next}
 use mathlib.Core.Path.{refl}
 use Prim.Native.Nat.{ℕ}
-use Rattle.text.specs.HexLaws.{digits-none, digits_more}
+use Rattle.text.specs.HexLaws.{digits_none, digits_more}
 use mathlib.Core.List.{List}
 use lib.ListN.{get_or}
-use Rattle.text.specs.Place.{withText}
-use Rattle.text.specs.Hex.{twoDigits}
-use Rattle.wire.specs.PatchLaws.{length-patch, patch-none}
+use Rattle.text.specs.Place.{with_text}
+use Rattle.text.specs.Hex.{two_digits}
+use Rattle.wire.specs.PatchLaws.{length_patch, patch_none}
 use borrow.Author.Rules.{rules}
 use Rattle.text.proofs.hex.put_all.Statement.{statement}
 use Rattle.text.proofs.hex.put_all.Tie as tie
 
 abbrev invariant-loop : tie.invariant-loop
-invariant-loop out₀ at s i₀ out i = (i ≤ length s) × ((length out ≡ length out₀) × (out ≡ patch out₀ at (digitsOf i s)))
+invariant-loop out₀ at s i₀ out i = (i ≤ length s) × ((length out ≡ length out₀) × (out ≡ patch out₀ at (digits_of i s)))
 
 abbrev decreases-loop : tie.decreases-loop
 decreases-loop out₀ at s i₀ out i = length s - i
@@ -30,8 +30,8 @@ loop-holds c =
       omega arith,
       (
         refl,
-        sym (ap (patch g.out.now g.at) (digits-none g.s.now) ∙
-            patch-none g.out.now g.at),
+        sym (ap (patch g.out.now g.at) (digits_none g.s.now) ∙
+            patch_none g.out.now g.at),
       ),
     )
 
@@ -60,9 +60,9 @@ loop-again c =
     let out = g.out.now in
     let s = g.s.now in
     let e = c.before.before.put-digits.ensures.1
-    ∙ ap (λ (o : List ℕ). withText o (g.at + 2 * l.i) (twoDigits 0x61 (get_or s l.i 0))) l.invariant.1.1
+    ∙ ap (λ (o : List ℕ). with_text o (g.at + 2 * l.i) (two_digits 0x61 (get_or s l.i 0))) l.invariant.1.1
     ∙ digits_more out g.at l.i s (omega arith) in
-    let n = ap length e ∙ length-patch out g.at (digitsOf (l.i + 1) s) (omega (arith, digits-length (l.i + 1) s)) in
+    let n = ap length e ∙ length_patch out g.at (digits_of (l.i + 1) s) (omega (arith, digits_length (l.i + 1) s)) in
     (omega arith, (n, e))
 
 same_length : tie.Need-same-length invariant-loop decreases-loop
@@ -73,7 +73,7 @@ returns c =
     let g = c.before.before.before.before.args in
     let l = c.before.loop in
     let e : l.i ≡ length g.s.now = omega arith in
-    l.invariant.1.1 ∙ ap (λ (k : ℕ). patch g.out.now g.at (digitsOf k g.s.now)) e
+    l.invariant.1.1 ∙ ap (λ (k : ℕ). patch g.out.now g.at (digits_of k g.s.now)) e
 
 pub put-all-spec : {M : Type 1} → statement M
 put-all-spec =

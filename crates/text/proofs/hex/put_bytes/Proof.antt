@@ -4,20 +4,20 @@ use Prim.Native.Nat.{◌+◌, ◌*◌, ◌≤◌, ◌-◌}
 use native.Mathlib.Omega.{arith}
 use lib.ListN.{length}
 use Rattle.wire.specs.Bytes.{patch}
-use Rattle.text.specs.Hex.{bytesIn}
-use Rattle.text.specs.HexLaws.{bytes-length, bytes_next}
+use Rattle.text.specs.Hex.{bytes_in}
+use Rattle.text.specs.HexLaws.{bytes_length, bytes_next}
 use mathlib.Core.Path.{refl}
 use Prim.Native.Nat.{ℕ}
-use Rattle.text.specs.HexLaws.{bytes-none, bytes-more}
+use Rattle.text.specs.HexLaws.{bytes_none, bytes_more}
 use mathlib.Core.Path.{ap₂}
 use mathlib.Core.List.{List, [], ◌∷◌}
-use Rattle.wire.specs.PatchLaws.{length-patch, patch-none}
+use Rattle.wire.specs.PatchLaws.{length_patch, patch_none}
 use borrow.Author.Rules.{rules}
 use Rattle.text.proofs.hex.put_bytes.Statement.{statement}
 use Rattle.text.proofs.hex.put_bytes.Tie as tie
 
 abbrev invariant-loop : tie.invariant-loop
-invariant-loop s n out₀ at i₀ out i = (i ≤ n) × ((length out ≡ length out₀) × (out ≡ patch out₀ at (bytesIn i s)))
+invariant-loop s n out₀ at i₀ out i = (i ≤ n) × ((length out ≡ length out₀) × (out ≡ patch out₀ at (bytes_in i s)))
 
 abbrev decreases-loop : tie.decreases-loop
 decreases-loop s n out₀ at i₀ out i = n - i
@@ -28,8 +28,8 @@ loop-holds c =
       omega arith,
       (
         refl,
-        sym (ap (patch g.out.now g.at) (bytes-none g.s.now) ∙
-            patch-none g.out.now g.at),
+        sym (ap (patch g.out.now g.at) (bytes_none g.s.now) ∙
+            patch_none g.out.now g.at),
       ),
     )
 
@@ -59,8 +59,8 @@ loop-again c =
     let s = g.s.now in
     let e = c.before.before.put.ensures
     ∙ ap₂ (λ (o : List ℕ) (b : ℕ). patch o (g.at + l.i) (b ∷ [])) l.invariant.1.1 c.before.before.before.before.before.byte_of.ensures
-    ∙ bytes-more out g.at l.i s (omega arith) in
-    let n = ap length e ∙ length-patch out g.at (bytesIn (l.i + 1) s) (omega (arith, bytes-length (l.i + 1) s)) in
+    ∙ bytes_more out g.at l.i s (omega arith) in
+    let n = ap length e ∙ length_patch out g.at (bytes_in (l.i + 1) s) (omega (arith, bytes_length (l.i + 1) s)) in
     (omega arith, (n, e))
 
 same_length : tie.Need-same-length invariant-loop decreases-loop
@@ -71,7 +71,7 @@ returns c =
     let g = c.before.before.before.before.args in
     let l = c.before.loop in
     let e : l.i ≡ g.n = omega arith in
-    l.invariant.1.1 ∙ ap (λ (k : ℕ). patch g.out.now g.at (bytesIn k g.s.now)) e
+    l.invariant.1.1 ∙ ap (λ (k : ℕ). patch g.out.now g.at (bytes_in k g.s.now)) e
 
 pub put-bytes-spec : {M : Type 1} → statement M
 put-bytes-spec =

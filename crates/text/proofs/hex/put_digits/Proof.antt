@@ -1,9 +1,9 @@
 -- The two digits are put as one text.
-use Rattle.text.specs.Hex.{twoDigits}
+use Rattle.text.specs.Hex.{two_digits}
 use mathlib.Core.Path.{◌≡◌, ◌∙◌, ap, ap₂}
 use mathlib.Core.List.{[], ◌∷◌}
 use Prim.Native.Nat.{ℕ}
-use Rattle.text.specs.Place.{placeBehind, withText}
+use Rattle.text.specs.Place.{place_behind, with_text}
 use borrow.Author.Rules.{rules}
 use Rattle.text.proofs.hex.put_digits.Statement.{statement}
 use Rattle.text.proofs.hex.put_digits.Tie as tie
@@ -24,13 +24,13 @@ same_length : tie.Need-same-length
 same_length c = search rules
 
 returns : tie.Need-returns
-unfolding twoDigits
+unfolding two_digits
 returns c =
     let g = c.before.before.before.before.before.before.before.before.args in
-    let e : (c.before.before.before.before.before.before.digit.result ∷ c.before.before.before.before.before.digit2.result ∷ []) ≡ twoDigits g.ten g.b =
+    let e : (c.before.before.before.before.before.before.digit.result ∷ c.before.before.before.before.before.digit2.result ∷ []) ≡ two_digits g.ten g.b =
     ap₂ (λ (x y : ℕ). x ∷ y ∷ []) c.before.before.before.before.before.before.digit.ensures c.before.before.before.before.before.digit2.ensures in
     let p = c.before.before.put.ensures in
-    (p.0 ∙ ap (placeBehind g.out.now g.at) e, p.1 ∙ ap (withText g.out.now g.at) e)
+    (p.0 ∙ ap (place_behind g.out.now g.at) e, p.1 ∙ ap (with_text g.out.now g.at) e)
 
 pub put-digits-spec : {M : Type 1} → statement M
 put-digits-spec =

@@ -1,13 +1,13 @@
 -- No bytes are a dash; else without room the buffer is as it was, with room the digits are the patch.
 use mathlib.Core.Path.{◌∙◌, sym}
 use native.Mathlib.Omega.{arith}
-use Rattle.text.specs.PlaceLaws.{placed-behind, placed-in, unplaced-behind, unplaced-in}
-use Rattle.text.specs.HexLaws.{digits-length, text-none, text-some}
+use Rattle.text.specs.PlaceLaws.{placed_behind, placed_in, unplaced_behind, unplaced_in}
+use Rattle.text.specs.HexLaws.{digits_length, text_none, text_some}
 use mathlib.Core.Path.{ap}
 use lib.ListN.{length}
 use Rattle.wire.specs.Bytes.{patch}
-use Rattle.text.specs.Place.{placeBehind, withText}
-use Rattle.text.specs.Hex.{hexText}
+use Rattle.text.specs.Place.{place_behind, with_text}
+use Rattle.text.specs.Hex.{hex_text}
 use borrow.Author.Rules.{rules}
 use Rattle.text.proofs.hex.put_hex.Statement.{statement}
 use Rattle.text.proofs.hex.put_hex.Tie as tie
@@ -24,17 +24,17 @@ same_length c = search rules
 returns : tie.Need-returns
 returns c =
     let g = c.before.before.before.before.before.before.before.before.args in
-    let e = sym (text-none g.s.now (omega arith)) in
+    let e = sym (text_none g.s.now (omega arith)) in
     let p = c.before.before.put.ensures in
-    (p.0 ∙ ap (placeBehind g.out.now g.at) e, p.1 ∙ ap (withText g.out.now g.at) e)
+    (p.0 ∙ ap (place_behind g.out.now g.at) e, p.1 ∙ ap (with_text g.out.now g.at) e)
 
 returns-2 : tie.Need-returns-2
 returns-2 c =
     let g = c.before.before.before.before.args in
-    let long = ap length (text-some g.s.now (omega arith)) ∙ digits-length (length g.s.now) g.s.now in (
-      sym (unplaced-behind g.out.now g.at (hexText g.s.now) (omega (arith, long))),
-      sym (unplaced-in g.out.now g.at
-          (hexText g.s.now) (omega (arith, long))),
+    let long = ap length (text_some g.s.now (omega arith)) ∙ digits_length (length g.s.now) g.s.now in (
+      sym (unplaced_behind g.out.now g.at (hex_text g.s.now) (omega (arith, long))),
+      sym (unplaced_in g.out.now g.at
+          (hex_text g.s.now) (omega (arith, long))),
     )
 
 sub-if3 : tie.Need-overflow-sub-if3
@@ -43,10 +43,10 @@ sub-if3 c = search rules
 returns-3 : tie.Need-returns-3
 returns-3 c =
     let g = c.before.before.before.before.before.args in
-    let long = ap length (text-some g.s.now (omega arith)) ∙ digits-length (length g.s.now) g.s.now in (
-      sym (unplaced-behind g.out.now g.at (hexText g.s.now) (omega (arith, long))),
-      sym (unplaced-in g.out.now g.at
-          (hexText g.s.now) (omega (arith, long))),
+    let long = ap length (text_some g.s.now (omega arith)) ∙ digits_length (length g.s.now) g.s.now in (
+      sym (unplaced_behind g.out.now g.at (hex_text g.s.now) (omega (arith, long))),
+      sym (unplaced_in g.out.now g.at
+          (hex_text g.s.now) (omega (arith, long))),
     )
 
 put-all-requires : tie.Need-put-all-requires
@@ -64,10 +64,10 @@ same-length-2 c = search rules
 returns-4 : tie.Need-returns-4
 returns-4 c =
     let g = c.before.before.before.before.before.before.before.before.before.args in
-    let long = ap length (text-some g.s.now (omega arith)) ∙ digits-length (length g.s.now) g.s.now in (
-      omega (arith, long, placed-behind g.out.now g.at (hexText g.s.now) (omega (arith, long))),
-      c.before.before.put_all_lem.ensures ∙ ap (patch g.out.now g.at) (sym (text-some g.s.now (omega arith)))
-          ∙ sym (placed-in g.out.now g.at (hexText g.s.now) (omega (arith, long))),
+    let long = ap length (text_some g.s.now (omega arith)) ∙ digits_length (length g.s.now) g.s.now in (
+      omega (arith, long, placed_behind g.out.now g.at (hex_text g.s.now) (omega (arith, long))),
+      c.before.before.put_all_lem.ensures ∙ ap (patch g.out.now g.at) (sym (text_some g.s.now (omega arith)))
+          ∙ sym (placed_in g.out.now g.at (hex_text g.s.now) (omega (arith, long))),
     )
 
 pub put-hex-spec : {M : Type 1} → statement M

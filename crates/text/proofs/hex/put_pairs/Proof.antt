@@ -1,11 +1,11 @@
 -- Without room the buffer is as it was; with room the bytes are the patch.
 use mathlib.Core.Path.{◌∙◌, sym}
 use native.Mathlib.Omega.{arith}
-use Rattle.text.specs.PlaceLaws.{placed-behind, placed-in, unplaced-behind, unplaced-in}
-use Rattle.text.specs.HexLaws.{bytes-length}
+use Rattle.text.specs.PlaceLaws.{placed_behind, placed_in, unplaced_behind, unplaced_in}
+use Rattle.text.specs.HexLaws.{bytes_length}
 use Prim.Native.Nat.{◌/◌}
 use lib.ListN.{length}
-use Rattle.text.specs.Hex.{bytesIn}
+use Rattle.text.specs.Hex.{bytes_in}
 use borrow.Author.Rules.{rules}
 use Rattle.text.proofs.hex.put_pairs.Statement.{statement}
 use Rattle.text.proofs.hex.put_pairs.Tie as tie
@@ -13,10 +13,10 @@ use Rattle.text.proofs.hex.put_pairs.Tie as tie
 returns : tie.Need-returns
 returns c =
     let g = c.before.before.before.args in
-    let long = bytes-length (length g.s.now / 2) g.s.now in (
-      sym (unplaced-behind g.out.now g.at (bytesIn (length g.s.now / 2) g.s.now) (omega (arith, long))),
+    let long = bytes_length (length g.s.now / 2) g.s.now in (
+      sym (unplaced_behind g.out.now g.at (bytes_in (length g.s.now / 2) g.s.now) (omega (arith, long))),
       sym
-          (unplaced-in g.out.now g.at (bytesIn (length g.s.now / 2) g.s.now) (omega (arith, long))),
+          (unplaced_in g.out.now g.at (bytes_in (length g.s.now / 2) g.s.now) (omega (arith, long))),
     )
 
 sub-if2 : tie.Need-overflow-sub-if2
@@ -25,10 +25,10 @@ sub-if2 c = search rules
 returns-2 : tie.Need-returns-2
 returns-2 c =
     let g = c.before.before.before.before.args in
-    let long = bytes-length (length g.s.now / 2) g.s.now in (
-      sym (unplaced-behind g.out.now g.at (bytesIn (length g.s.now / 2) g.s.now) (omega (arith, long))),
+    let long = bytes_length (length g.s.now / 2) g.s.now in (
+      sym (unplaced_behind g.out.now g.at (bytes_in (length g.s.now / 2) g.s.now) (omega (arith, long))),
       sym
-          (unplaced-in g.out.now g.at (bytesIn (length g.s.now / 2) g.s.now) (omega (arith, long))),
+          (unplaced_in g.out.now g.at (bytes_in (length g.s.now / 2) g.s.now) (omega (arith, long))),
     )
 
 put-bytes-requires : tie.Need-put-bytes-requires
@@ -43,10 +43,10 @@ same_length c = search rules
 returns-3 : tie.Need-returns-3
 returns-3 c =
     let g = c.before.before.before.before.before.before.before.before.args in
-    let said = bytesIn (length g.s.now / 2) g.s.now in
-    let long = bytes-length (length g.s.now / 2) g.s.now in (
-      omega (arith, long, placed-behind g.out.now g.at said (omega (arith, long))),
-      c.before.before.put-bytes.ensures ∙ sym (placed-in g.out.now g.at said (omega (arith, long))),
+    let said = bytes_in (length g.s.now / 2) g.s.now in
+    let long = bytes_length (length g.s.now / 2) g.s.now in (
+      omega (arith, long, placed_behind g.out.now g.at said (omega (arith, long))),
+      c.before.before.put-bytes.ensures ∙ sym (placed_in g.out.now g.at said (omega (arith, long))),
     )
 
 pub put-pairs-spec : {M : Type 1} → statement M

@@ -1,6 +1,6 @@
 -- A dash, pairs of digits, or no hex.
 use mathlib.Core.Path.{◌∙◌, sym}
-use Rattle.text.specs.HexLaws.{unhex-dash, unhex-pairs, unhex-none, pairs-digits}
+use Rattle.text.specs.HexLaws.{unhex_dash, unhex_pairs, unhex_none, pairs_digits}
 use borrow.Author.Rules.{rules}
 use Rattle.text.proofs.hex.unhex.Statement.{statement}
 use Rattle.text.proofs.hex.unhex.Tie as tie
@@ -20,7 +20,7 @@ same_length c = search rules
 returns : tie.Need-returns
 returns c =
     let g = c.before.before.before.before.before.before.before.before.before.args in
-    let u = unhex-dash g.s.now g.out.now g.at (sym c.before.before.before.before.before.before.is-dash.ensures ∙
+    let u = unhex_dash g.s.now g.out.now g.at (sym c.before.before.before.before.before.before.is-dash.ensures ∙
     c.before.before.before.before.before.if1.true) in
     let p = c.before.before.put.ensures in
     (p.0 ∙ sym u.0, p.1 ∙ sym u.1)
@@ -29,7 +29,7 @@ are-pairs-requires : tie.Need-are-pairs-requires
 are-pairs-requires c κs = search rules
 
 put-pairs-requires : tie.Need-put-pairs-requires
-put-pairs-requires c κs = pairs-digits _ (sym c.before.before.are-pairs.ensures ∙ c.before.if2.true)
+put-pairs-requires c κs = pairs_digits _ (sym c.before.before.are-pairs.ensures ∙ c.before.if2.true)
 
 same-length-2 : tie.Need-same-length-2
 same-length-2 c = search rules
@@ -37,14 +37,14 @@ same-length-2 c = search rules
 returns-2 : tie.Need-returns-2
 returns-2 c =
     let g = c.before.before.before.before.before.before.before.before.before.before.args in
-    let u = unhex-pairs g.s.now g.out.now g.at (sym c.before.before.before.before.before.before.before.is-dash.ensures ∙ c.before.before.before.before.before.before.if1.false) (sym c.before.before.before.before.before.are-pairs.ensures ∙ c.before.before.before.before.if2.true) in
+    let u = unhex_pairs g.s.now g.out.now g.at (sym c.before.before.before.before.before.before.before.is-dash.ensures ∙ c.before.before.before.before.before.before.if1.false) (sym c.before.before.before.before.before.are-pairs.ensures ∙ c.before.before.before.before.if2.true) in
     let p = c.before.before.put-pairs.ensures in
     (p.0 ∙ sym u.0, p.1 ∙ sym u.1)
 
 returns-3 : tie.Need-returns-3
 returns-3 c =
     let g = c.before.before.before.before.before.before.args in
-    let u = unhex-none g.s.now g.out.now g.at (sym c.before.before.before.is-dash.ensures ∙ c.before.before.if1.false) (sym c.before.are-pairs.ensures ∙ c.if2.false) in
+    let u = unhex_none g.s.now g.out.now g.at (sym c.before.before.before.is-dash.ensures ∙ c.before.before.if1.false) (sym c.before.are-pairs.ensures ∙ c.if2.false) in
     (sym u.0, sym u.1)
 
 pub unhex-spec : {M : Type 1} → statement M

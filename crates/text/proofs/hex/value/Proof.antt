@@ -2,7 +2,7 @@
 use mathlib.Core.Path.{◌∙◌, sym}
 use mathlib.Core.Logic.{inl, inr}
 use native.Mathlib.Omega.{arith}
-use Rattle.text.specs.HexLaws.{value-numeral, value-capital, value-letter, value_none}
+use Rattle.text.specs.HexLaws.{value_numeral, value_capital, value_letter, value_none}
 use borrow.Author.Rules.{rules}
 use Rattle.text.proofs.hex.value.Statement.{statement}
 use Rattle.text.proofs.hex.value.Tie as tie
@@ -14,13 +14,13 @@ sub-result-2 : tie.Need-overflow-sub-result-2
 sub-result-2 c = search rules
 
 returns : tie.Need-returns
-returns c = sym (value-numeral _ (omega arith) (omega arith))
+returns c = sym (value_numeral _ (omega arith) (omega arith))
 
 returns-2 : tie.Need-returns-2
-returns-2 c = sym (value-capital _ (omega arith) (omega arith) ∙ omega arith)
+returns-2 c = sym (value_capital _ (omega arith) (omega arith) ∙ omega arith)
 
 returns-3 : tie.Need-returns-3
-returns-3 c = sym (value-letter _ (omega arith) (omega arith) ∙ omega arith)
+returns-3 c = sym (value_letter _ (omega arith) (omega arith) ∙ omega arith)
 
 returns-4 : tie.Need-returns-4
 returns-4 c = sym (value_none _ (inl (omega arith)) (inl (omega arith)) (inl (omega arith)))

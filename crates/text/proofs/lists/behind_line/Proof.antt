@@ -1,6 +1,6 @@
 -- Behind the newline, or at the end.
 use native.Mathlib.Omega.{arith}
-use Rattle.text.specs.ListLaws.{rest-behind, rest_ended}
+use Rattle.text.specs.ListLaws.{rest_behind, rest_ended}
 use borrow.Author.Rules.{rules}
 use Rattle.text.proofs.lists.behind_line.Statement.{statement}
 use Rattle.text.proofs.lists.behind_line.Tie as tie
@@ -14,7 +14,7 @@ add-result c = search rules
 returns : tie.Need-returns
 returns c =
     let g = c.before.before.before.args in
-    (omega arith, rest-behind g.at _ g.list.now c.before.find.ensures.0)
+    (omega arith, rest_behind g.at _ g.list.now c.before.find.ensures.0)
 
 returns-2 : tie.Need-returns-2
 returns-2 c =

@@ -4,7 +4,7 @@ use Prim.Native.Nat.{◌≤◌, ◌-◌}
 use native.Mathlib.Omega.{arith}
 use lib.ListN.{length, drop}
 use Rattle.text.specs.Lists.{line_of}
-use Rattle.text.specs.ListLaws.{line-next, line-here}
+use Rattle.text.specs.ListLaws.{line_next, line_here}
 use Prim.Native.Nat.{ℕ, ◌+◌}
 use borrow.Author.Rules.{rules}
 use Rattle.text.proofs.lists.line_of.Statement.{statement}
@@ -36,7 +36,7 @@ loop-again c =
     let g = c.before.before.before.before.args in
     let l = c.before.before.loop in
     let p = c.behind-line.ensures in
-    (p.0, ap (line_of (g.k - (l.i + 1))) p.1 ∙ sym (line-next g.k l.i (drop l.at g.list.now) (omega arith)) ∙ l.invariant.1)
+    (p.0, ap (line_of (g.k - (l.i + 1))) p.1 ∙ sym (line_next g.k l.i (drop l.at g.list.now) (omega arith)) ∙ l.invariant.1)
 
 find-requires : tie.Need-find-requires invariant-loop decreases-loop
 find-requires c κs = search rules
@@ -54,7 +54,7 @@ returns : tie.Need-returns invariant-loop decreases-loop
 returns c =
     let g = c.before.before.before.before.before.args in
     let l = c.before.before.before.loop in
-    line-here g.k l.i l.at _ g.list.now (omega arith) c.before.find.ensures.0 ∙ l.invariant.1
+    line_here g.k l.i l.at _ g.list.now (omega arith) c.before.find.ensures.0 ∙ l.invariant.1
 
 pub line-of-spec : {M : Type 1} → statement M
 line-of-spec =

@@ -4,7 +4,7 @@ use mathlib.Core.Bool.{true, false}
 use Prim.Native.Nat.{◌-◌}
 use native.Mathlib.Omega.{arith}
 use lib.ListN.{length}
-use Rattle.text.specs.WordLaws.{Searched, search-starts, search-goes-on, search-finds, search-ends}
+use Rattle.text.specs.WordLaws.{Searched, search_starts, search_goes_on, search_finds, search_ends}
 use borrow.Author.Rules.{rules}
 use Rattle.text.proofs.words.word_start.Statement.{statement}
 use Rattle.text.proofs.words.word_start.Tie as tie
@@ -16,7 +16,7 @@ abbrev decreases-loop : tie.decreases-loop
 decreases-loop line at i₀ i = length line - i
 
 loop-holds : tie.Need-loop-init invariant-loop decreases-loop
-loop-holds c = let g = c.before.args in search-starts false g.at g.line.now
+loop-holds c = let g = c.before.args in search_starts false g.at g.line.now
 
 shared-slice-read-is-gap : tie.Need-shared-slice-read-is-gap invariant-loop decreases-loop
 shared-slice-read-is-gap c = search rules
@@ -32,15 +32,15 @@ loop-less c = search rules
 
 loop-again : tie.Need-loop-preserved invariant-loop decreases-loop
 loop-again c =
-    let g = c.before.before.before.before.before.before.args in search-goes-on false g.at g.line.now _ c.before.before.before.before.loop.invariant (sym c.before.is-gap.ensures ∙ c.if1.true)
+    let g = c.before.before.before.before.before.before.args in search_goes_on false g.at g.line.now _ c.before.before.before.before.loop.invariant (sym c.before.is-gap.ensures ∙ c.if1.true)
 
 returns : tie.Need-returns invariant-loop decreases-loop
 returns c =
-    let g = c.before.before.before.before.before.before.args in search-finds false g.at g.line.now c.before.before.before.before.loop.i c.before.before.before.before.loop.invariant (omega arith) (sym c.before.is-gap.ensures ∙ c.if1.false)
+    let g = c.before.before.before.before.before.before.args in search_finds false g.at g.line.now c.before.before.before.before.loop.i c.before.before.before.before.loop.invariant (omega arith) (sym c.before.is-gap.ensures ∙ c.if1.false)
 
 returns-2 : tie.Need-returns-2 invariant-loop decreases-loop
 returns-2 c =
-    let g = c.before.before.before.args in search-ends false g.at g.line.now c.before.loop.i c.before.loop.invariant
+    let g = c.before.before.before.args in search_ends false g.at g.line.now c.before.loop.i c.before.loop.invariant
     (omega arith)
 
 pub word-start-spec : {M : Type 1} → statement M

@@ -3,7 +3,7 @@ use mathlib.Core.Path.{◌≡◌, ◌∙◌, ap}
 use Prim.Native.Nat.{ℕ}
 use native.Mathlib.Omega.{arith}
 use lib.ListN.{length, take, drop, replicate, length-take, length-drop}
-use Rattle.wire.specs.PatchLaws.{patch-lent}
+use Rattle.wire.specs.PatchLaws.{patch_lent}
 use borrow.Author.Rules.{rules}
 use Rattle.units.proofs.fields.clear_next_and_working.Statement.{statement}
 use Rattle.units.proofs.fields.clear_next_and_working.Tie as tie
@@ -29,7 +29,7 @@ returns c =
     let s = k.before.before.before in
     let l = s.args.rec.now in
     let e : length (take 360 (drop 72 l)) ≡ 360 = simp (length-take, length-drop) (omega arith) in
-    patch-lent l 72 360 k.clear.new.0 (replicate 360 0) (omega arith) k.clear.auto.0
+    patch_lent l 72 360 k.clear.new.0 (replicate 360 0) (omega arith) k.clear.auto.0
     (k.clear.ensures ∙ ap (λ (n : ℕ). replicate n 0) e)
 
 pub clear-next-and-working-spec : {M : Type 1} → statement M

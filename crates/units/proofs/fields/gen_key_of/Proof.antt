@@ -1,5 +1,5 @@
 -- What is read is the field.
-use Rattle.units.specs.Unit.{genKey}
+use Rattle.units.specs.Unit.{gen_key_of}
 use borrow.Author.Rules.{rules}
 use Rattle.units.proofs.fields.gen_key_of.Statement.{statement}
 use Rattle.units.proofs.fields.gen_key_of.Tie as tie
@@ -8,7 +8,7 @@ bytes20-requires : tie.Need-bytes20-requires
 bytes20-requires c κs = search rules
 
 returns : tie.Need-returns
-unfolding genKey
+unfolding gen_key_of
 returns c = c.bytes20.ensures
 
 pub gen-key-of-spec : {M : Type 1} → statement M

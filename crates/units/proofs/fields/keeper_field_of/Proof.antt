@@ -1,5 +1,5 @@
 -- What is read is the field.
-use Rattle.units.specs.Unit.{keeperField}
+use Rattle.units.specs.Unit.{keeper_field}
 use borrow.Author.Rules.{rules}
 use Rattle.units.proofs.fields.keeper_field_of.Statement.{statement}
 use Rattle.units.proofs.fields.keeper_field_of.Tie as tie
@@ -11,7 +11,7 @@ cast-result : tie.Need-overflow-cast-result
 cast-result c = search rules
 
 returns : tie.Need-returns
-unfolding keeperField
+unfolding keeper_field
 returns c = c.be16.ensures
 
 pub keeper-field-of-spec : {M : Type 1} → statement M

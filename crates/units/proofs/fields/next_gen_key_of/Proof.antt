@@ -1,5 +1,5 @@
 -- What is read is the field.
-use Rattle.units.specs.Unit.{nextGenKey}
+use Rattle.units.specs.Unit.{next_gen_key}
 use borrow.Author.Rules.{rules}
 use Rattle.units.proofs.fields.next_gen_key_of.Statement.{statement}
 use Rattle.units.proofs.fields.next_gen_key_of.Tie as tie
@@ -8,7 +8,7 @@ bytes20-requires : tie.Need-bytes20-requires
 bytes20-requires c κs = search rules
 
 returns : tie.Need-returns
-unfolding nextGenKey
+unfolding next_gen_key
 returns c = c.bytes20.ensures
 
 pub next-gen-key-of-spec : {M : Type 1} → statement M

@@ -5,7 +5,7 @@ use Prim.Native.Nat.{ℕ, ◌+◌}
 use native.Mathlib.Omega.{arith}
 use lib.ListN.{length}
 use Rattle.wire.specs.Bytes.{patch}
-use Rattle.wire.specs.PatchLaws.{patch-join}
+use Rattle.wire.specs.PatchLaws.{patch_join}
 use borrow.Author.Rules.{rules}
 use Rattle.units.proofs.fields.put_keys.Statement.{statement}
 use Rattle.units.proofs.fields.put_keys.Tie as tie
@@ -38,7 +38,7 @@ returns c =
     let g = s.args in
     let l : length g.t3 ≡ 20 = first-length s in
     c.before.before.put2.ensures ∙ ap (λ (x : List ℕ). patch x (g.a + 20) g.t4) k.put.ensures
-    ∙ patch-join g.rec.now g.a g.t3 (omega arith) (g.a + 20) g.t4 (omega arith)
+    ∙ patch_join g.rec.now g.a g.t3 (omega arith) (g.a + 20) g.t4 (omega arith)
 
 pub put-keys-spec : {M : Type 1} → statement M
 put-keys-spec =

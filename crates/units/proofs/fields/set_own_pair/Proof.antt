@@ -2,7 +2,7 @@
 use mathlib.Core.Path.{◌∙◌, ap₂}
 use mathlib.Core.List.{List}
 use Prim.Native.Nat.{ℕ}
-use Rattle.units.specs.Unit.{withPair}
+use Rattle.units.specs.Unit.{with_pair}
 use borrow.Author.Rules.{rules}
 use Rattle.units.proofs.fields.set_own_pair.Statement.{statement}
 use Rattle.units.proofs.fields.set_own_pair.Tie as tie
@@ -24,7 +24,7 @@ returns c =
     let p = c.before.before in
     let g = p.before.before in
     let rec = g.before.before.before.args.rec.now in
-    p.set_pair.ensures ∙ ap₂ (λ (x y : List ℕ). withPair x y rec) g.before.own_key.ensures g.own-key2.ensures
+    p.set_pair.ensures ∙ ap₂ (λ (x y : List ℕ). with_pair x y rec) g.before.own_key.ensures g.own-key2.ensures
 
 pub set-own-pair-spec : {M : Type 1} → statement M
 set-own-pair-spec = tie.close (tie.spec own-key-requires own-key-requires-2 set-pair-requires same_length returns)

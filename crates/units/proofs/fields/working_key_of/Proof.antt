@@ -2,7 +2,7 @@
 use mathlib.Core.Path.{◌∙◌, ap}
 use Prim.Native.Nat.{ℕ, ◌/◌, ◌%◌, ◌^◌}
 use lib.Dec.{eqb}
-use Rattle.units.specs.Unit.{isValid, workingKey}
+use Rattle.units.specs.Unit.{is_valid, working_key}
 use borrow.Author.Rules.{rules}
 use Rattle.units.proofs.fields.working_key_of.Statement.{statement}
 use Rattle.units.proofs.fields.working_key_of.Tie as tie
@@ -26,7 +26,7 @@ bytes20-requires : tie.Need-bytes20-requires
 bytes20-requires c κs = search rules
 
 returns : tie.Need-returns
-unfolding isValid workingKey
+unfolding is_valid working_key
 returns c =
     let v : ℕ = c.before.before.before.before.args.version.0 in
     (c.before.has-bit.ensures ∙ ap (λ (m : ℕ). eqb (m / 2 ^ v % 2) 1) c.before.before.mask-of.ensures, c.bytes20.ensures)

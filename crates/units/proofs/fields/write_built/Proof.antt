@@ -1,7 +1,7 @@
 -- The numbers, the identifier, the keys, whose keys, the check.
 use mathlib.Core.Path.{◌≡◌}
 use lib.ListN.{length}
-use Rattle.units.specs.RoundLaws.{built-steps}
+use Rattle.units.specs.RoundLaws.{built_steps}
 use borrow.Author.Rules.{rules}
 use Rattle.units.proofs.fields.write_built.Statement.{statement}
 use Rattle.units.proofs.fields.write_built.Tie as tie
@@ -31,8 +31,8 @@ same_length c = search rules
 id-length : (c : tie.Start) → length c.args.t5 ≡ 16
 id-length c = search rules
 
-auth-length : (c : tie.Start) → length c.args.auth-key ≡ 20
-auth-length c = search rules
+auth_length : (c : tie.Start) → length c.args.auth-key ≡ 20
+auth_length c = search rules
 
 gen-length : (c : tie.Start) → length c.args.gen-key ≡ 20
 gen-length c = search rules
@@ -45,7 +45,7 @@ returns c =
     let c₁ = c₂.before.before.before.before in
     let c₀ = c₁.before.before.before.before.before in
     let s = c₀.before.before.before in
-    built-steps s.args.unit.0 s.args.method s.args.tag _ _ _ s.args.keeper _ _ _ _ _ (id-length s) (auth-length s) (gen-length s)
+    built_steps s.args.unit.0 s.args.method s.args.tag _ _ _ s.args.keeper _ _ _ _ _ (id-length s) (auth_length s) (gen-length s)
     c₀.write-numbers.ensures c₁.put.ensures c₂.set-own-pair.ensures c₃.put2.ensures c₄.seal-record.ensures
 
 pub write-built-spec : {M : Type 1} → statement M

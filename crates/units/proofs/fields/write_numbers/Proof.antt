@@ -1,6 +1,6 @@
 -- Zeros, one number right behind another.
-use Rattle.seal.specs.BlankLaws.{blank-is}
-use Rattle.units.specs.RoundLaws.{numbers-steps}
+use Rattle.seal.specs.BlankLaws.{blank_is}
+use Rattle.units.specs.RoundLaws.{numbers_steps}
 use borrow.Author.Rules.{rules}
 use Rattle.units.proofs.fields.write_numbers.Statement.{statement}
 use Rattle.units.proofs.fields.write_numbers.Tie as tie
@@ -39,7 +39,7 @@ returns c =
     let c₁ = c₂.before.before.before.before in
     let c₀ = c₁.before.before.before.before in
     let s = c₀.before.before.before in
-    numbers-steps s.args.unit.0 s.args.method s.args.tag _ _ _ _ _ _ _ (blank-is _ _ c₀.clear.ensures s.requires)
+    numbers_steps s.args.unit.0 s.args.method s.args.tag _ _ _ _ _ _ _ (blank_is _ _ c₀.clear.ensures s.requires)
     c₁.put2.ensures c₂.put22.ensures c₃.set-method.ensures c₄.set-mask.ensures c₅.set-tag.ensures c₆.set-step.ensures
 
 pub write-numbers-spec : {M : Type 1} → statement M
