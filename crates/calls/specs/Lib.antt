@@ -7,9 +7,3 @@ pub mod Whole
 pub mod Open
 pub mod Close
 pub mod Parts
-pub mod OutcomeLaws
-pub mod BuildLaws
-pub mod SlotsLaws
-pub mod WholeLaws
-pub mod OpenLaws
-pub mod CloseLaws

@@ -2,7 +2,3 @@
 pub mod Extension
 pub mod Places
 pub mod Laid
-pub mod ListLaws
-pub mod PlaceLaws
-pub mod ReducedLaws
-pub mod LaidLaws

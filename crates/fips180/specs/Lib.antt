@@ -2,5 +2,3 @@
 pub mod Sha1
 pub mod Running
 pub mod Begun
-pub mod Sha1Laws
-pub mod RunningLaws

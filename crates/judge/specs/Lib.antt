@@ -9,8 +9,3 @@ pub mod Seen
 pub mod Judgement
 pub mod Checked
 pub mod Order
-pub mod FaultLaws
-pub mod TestLaws
-pub mod JudgementLaws
-pub mod CheckedLaws
-pub mod AcceptedLaws

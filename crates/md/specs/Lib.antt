@@ -2,7 +2,3 @@
 pub mod Padding
 pub mod Chain
 pub mod Parts
-pub mod PaddingLaws
-pub mod ChainLaws
-pub mod PartsLaws
-pub mod FeedLaws

@@ -50,3 +50,13 @@ in_page page rec keys =
 -- `reply_length`)
 unfoldable pub reply_of : ℕ → ℕ → List ℕ → List ℕ → List ℕ
 reply_of page allocation rec keys = take allocation (in_page page rec keys)
+
+-- how many bytes a page has
+unfoldable pub size_of : ℕ → ℕ
+size_of page =
+    pick (eqb page pages_of_in) 16
+    (pick (eqb page pages_of_out) 12
+    (pick (eqb page capabilities_in) 20
+    (pick (eqb page attributes_in) 12
+    (pick (eqb page controlled_in) 190
+    0))))

@@ -2,7 +2,7 @@
 ghost use Rattle.std.specs.Prelude.{◌≡◌, ◌≤◌, ◌<◌, min, length, get_or, take};
 ghost use Rattle.wire.specs.Bytes.{patch};
 ghost use Rattle.pages.specs.In.{supported_in, supported_out, capabilities, attributes_page, controlled_page, in_page, reply_of};
-ghost use Rattle.pages.specs.InLaws.{size_of};
+ghost use Rattle.pages.specs.In.{size_of};
 
 // The pages that IN has, under 0000h.
 const SUPPORTED_IN: [u8; 16] = [

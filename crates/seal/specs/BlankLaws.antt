@@ -5,8 +5,8 @@ use Rattle.std.proofs.lemmas.List.{length-replicate, replicate-append-replicate}
 use Rattle.choice.specs.Choice.{both}
 use Rattle.choice.specs.ChoiceLaws.{both_true}
 use Rattle.wire.specs.Bytes.{same, part, number, bytes_of, zeros, patch}
-use Rattle.wire.specs.SameLaws.{same_true, same_refl, same_is}
-use Rattle.wire.specs.ZeroLaws.{zeros_part, zeros_replicate}
+use Rattle.wire.proofs.SameLaws.{same_true, same_refl, same_is}
+use Rattle.wire.proofs.ZeroLaws.{zeros_part, zeros_replicate}
 use Rattle.words.specs.Words.{bits, and32, or32, xor32, not32, add32, rotl, ch, parity, maj}
 use Rattle.md.specs.Padding.{zeros_for, length_block, padding, padded}
 use Rattle.md.specs.Chain.{absorb}

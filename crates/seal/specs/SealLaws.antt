@@ -3,12 +3,12 @@ use Rattle.std.specs.Prelude.{◌≡◌, true, List, ◌++◌, ℕ, ◌+◌, ◌
 use Rattle.std.proofs.Common.{◌∙◌, sym, inl, arith, length-drop, take-append-drop, take_all}
 use Rattle.std.proofs.Math.Path.{ap, ap₂}
 use Rattle.wire.specs.Bytes.{same, part, number, zeros, patch}
-use Rattle.wire.specs.SameLaws.{same_refl, same_true}
-use Rattle.wire.specs.PatchLaws.{length_patch, part_outside, part_same}
-use Rattle.wire.specs.NumberLaws.{number_outside}
-use Rattle.wire.specs.ZeroLaws.{zeros_outside}
+use Rattle.wire.proofs.SameLaws.{same_refl, same_true}
+use Rattle.wire.proofs.PatchLaws.{length_patch, part_outside, part_same}
+use Rattle.wire.proofs.NumberLaws.{number_outside}
+use Rattle.wire.proofs.ZeroLaws.{zeros_outside}
 use Rattle.fips180.specs.Sha1.{sha1}
-use Rattle.fips180.specs.Sha1Laws.{sha1_length}
+use Rattle.fips180.proofs.Sha1Laws.{sha1_length}
 use Rattle.seal.specs.Seal.{checked, seal}
 
 module _ (l : List ℕ) (full : length l ≡ 512) where

@@ -1,6 +1,2 @@
 -- What the crate's contracts cite: Slot holds the meanings, the others laws of them.
 pub mod Slot
-pub mod SlotLaws
-pub mod SearchLaws
-pub mod TableLaws
-pub mod RoundLaws

@@ -7,7 +7,7 @@ use Rattle.std.proofs.lemmas.Bool.{lt-leb, eqb-false}
 use Rattle.choice.specs.Choice.{both, either, pick}
 use Rattle.choice.specs.ChoiceLaws.{both_true, both_none, either_right, pick_cases}
 use Rattle.wire.specs.Bytes.{AreBytes, patch}
-use Rattle.wire.specs.PatchLaws.{length_patch, patch_join}
+use Rattle.wire.proofs.PatchLaws.{length_patch, patch_join}
 use Rattle.text.specs.Place.{bad, place_behind, with_text}
 use Rattle.text.specs.PlaceLaws.{placed_in}
 use Rattle.text.specs.Hex.{within, value, digit, two_digits, digits_of, hex_text, all_digits, bytes_in, is_dash, are_pairs, is_hex}

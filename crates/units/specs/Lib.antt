@@ -1,5 +1,3 @@
 -- What the crate's contracts cite: Unit and Fields hold the meanings, the others laws of them.
 pub mod Unit
 pub mod Fields
-pub mod UnitLaws
-pub mod RoundLaws

@@ -1,8 +1,8 @@
 -- The tests one after another.
 use borrow.Author.Rules.{rules}
 use mathlib.Core.Path.{sym, ◌∙◌}
-use Rattle.calls.specs.SlotsLaws.{abort_length, abort_good, abort_not}
-use Rattle.calls.specs.CloseLaws.{holds_open}
+use Rattle.calls.proofs.SlotsLaws.{abort_length, abort_good, abort_not}
+use Rattle.calls.proofs.CloseLaws.{holds_open}
 use Rattle.calls.proofs.abort.Statement.{statement}
 use Rattle.calls.proofs.abort.Tie as tie
 

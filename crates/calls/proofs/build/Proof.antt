@@ -3,8 +3,8 @@ use borrow.Author.Rules.{rules}
 use borrow.Author.Tests.{not-true, not-false}
 use Prim.Native.Nat.{◌*◌}
 use native.Mathlib.Omega.{arith}
-use Rattle.wire.specs.PatchLaws.{patch_lent}
-use Rattle.calls.specs.BuildLaws.{build_length, build_unit, build_method, build_unkept, build_good}
+use Rattle.wire.proofs.PatchLaws.{patch_lent}
+use Rattle.calls.proofs.BuildLaws.{build_length, build_unit, build_method, build_unkept, build_good}
 use Rattle.calls.proofs.build.Statement.{statement}
 use Rattle.calls.proofs.build.Tie as tie
 

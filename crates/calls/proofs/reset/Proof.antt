@@ -1,5 +1,5 @@
 -- The test; then all slots are freed.
-use Rattle.calls.specs.SlotsLaws.{reset_length, reset_good}
+use Rattle.calls.proofs.SlotsLaws.{reset_length, reset_good}
 use borrow.Author.Rules.{rules}
 use Rattle.calls.proofs.reset.Statement.{statement}
 use Rattle.calls.proofs.reset.Tie as tie

@@ -1,6 +1,6 @@
 -- The tests one after another.
 use borrow.Author.Rules.{rules}
-use Rattle.calls.specs.BuildLaws.{keeper_none, keeper_high, keeper_itself, keeper_other}
+use Rattle.calls.proofs.BuildLaws.{keeper_none, keeper_high, keeper_itself, keeper_other}
 use Rattle.calls.proofs.right_keeper.Statement.{statement}
 use Rattle.calls.proofs.right_keeper.Tie as tie
 

@@ -5,7 +5,7 @@ use native.Mathlib.Omega.{arith}
 use lib.ListN.{length}
 use borrow.Fn.Kinds.{In}
 use borrow.Fn.PlainCycle.{Measures, is, falls, and}
-use Rattle.extension.specs.ListLaws.{ends_there, full_there, goes_on}
+use Rattle.extension.proofs.ListLaws.{ends_there, full_there, goes_on}
 use Rattle.extension.proofs.list_from.Reads as list-from
 use Rattle.extension.proofs.list_from.Kinds as list-from-kinds
 use Rattle.extension.proofs.+list_from.Lts-list_from as list-from-lts

@@ -1,6 +1,6 @@
 -- Each arm by what is carried so far; a first 40h by its length.
 use borrow.Author.Rules.{rules}
-use Rattle.extension.specs.PlaceLaws.{carry_first, carry_other, carry_again, carry_wrong}
+use Rattle.extension.proofs.PlaceLaws.{carry_first, carry_other, carry_again, carry_wrong}
 use Rattle.extension.proofs.carrying.Statement.{statement}
 use Rattle.extension.proofs.carrying.Tie as tie
 

@@ -4,7 +4,7 @@ use mathlib.Core.Path.{refl, ◌∙◌, ap}
 use Prim.Native.Nat.{◌+◌, ◌≤◌}
 use native.Mathlib.Omega.{arith}
 use lib.ListN.{length}
-use Rattle.extension.specs.ListLaws.{cut_there, more_there}
+use Rattle.extension.proofs.ListLaws.{cut_there, more_there}
 use Rattle.extension.proofs.descriptor_at.Statement.{statement}
 use Rattle.extension.proofs.descriptor_at.Tie as tie
 

@@ -1,7 +1,7 @@
 -- Two patches, one right behind the other, are one of both.
 use borrow.Author.Rules.{rules}
 use native.Mathlib.Omega.{arith}
-use Rattle.extension.specs.ReducedLaws.{laid_out}
+use Rattle.extension.proofs.ReducedLaws.{laid_out}
 use Rattle.extension.proofs.lay.Statement.{statement}
 use Rattle.extension.proofs.lay.Tie as tie
 

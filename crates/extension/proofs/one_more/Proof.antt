@@ -2,7 +2,7 @@
 use borrow.Author.Rules.{rules}
 use mathlib.Core.Path.{sym, ◌∙◌}
 use native.Mathlib.Omega.{arith}
-use Rattle.extension.specs.PlaceLaws.{more_carries, more_passes, more_below, more_above}
+use Rattle.extension.proofs.PlaceLaws.{more_carries, more_passes, more_below, more_above}
 use Rattle.extension.proofs.one_more.Statement.{statement}
 use Rattle.extension.proofs.one_more.Tie as tie
 

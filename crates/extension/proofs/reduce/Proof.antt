@@ -6,11 +6,11 @@ use Prim.Native.Nat.{ℕ, ◌≤◌}
 use native.Mathlib.Omega.{arith}
 use lib.ListN.{length, get_or}
 use Rattle.wire.specs.Bytes.{patch}
-use Rattle.wire.specs.PatchLaws.{patch_none}
+use Rattle.wire.proofs.PatchLaws.{patch_none}
 use Rattle.model.specs.Codes.{cdb_len}
-use Rattle.model.specs.CodeLaws.{cdb_small}
+use Rattle.model.proofs.CodeLaws.{cdb_small}
 use Rattle.extension.specs.Extension.{reduced}
-use Rattle.extension.specs.ReducedLaws.{short_none, nothing_none, wrong_none, place_fits, place_reduced, place_length}
+use Rattle.extension.proofs.ReducedLaws.{short_none, nothing_none, wrong_none, place_fits, place_reduced, place_length}
 use Rattle.extension.proofs.reduce.Statement.{statement}
 use Rattle.extension.proofs.reduce.Tie as tie
 

@@ -4,7 +4,7 @@ use Prim.Native.Nat.{◌%◌}
 use native.Mathlib.Omega.{arith}
 use lib.ListN.{length, take}
 use lib.Seq.{length-take-le}
-use Rattle.fips180.specs.RunningLaws.{buffer_cut}
+use Rattle.fips180.proofs.RunningLaws.{buffer_cut}
 use borrow.Author.Rules.{rules}
 use Rattle.fips180.proofs.finish.Statement.{statement}
 use Rattle.fips180.proofs.finish.Tie as tie

@@ -2,8 +2,8 @@
 use mathlib.Core.Path.{refl}
 use Prim.Native.Nat.{◌*◌, ◌/◌}
 use lib.ListN.{length}
-use Rattle.md.specs.FeedLaws.{part_end}
-use Rattle.fips180.specs.RunningLaws.{continued}
+use Rattle.md.proofs.FeedLaws.{part_end}
+use Rattle.fips180.proofs.RunningLaws.{continued}
 use borrow.Author.Rules.{rules}
 use Rattle.fips180.proofs.from_boundary.Statement.{statement}
 use Rattle.fips180.proofs.from_boundary.Tie as tie

@@ -4,8 +4,8 @@ use Prim.Native.Nat.{ℕ, ◌+◌}
 use native.Mathlib.Omega.{arith}
 use lib.ListN.{length, take}
 use lib.Seq.{length-take-le}
-use Rattle.md.specs.PaddingLaws.{ending_fits}
-use Rattle.fips180.specs.RunningLaws.{finished}
+use Rattle.md.proofs.PaddingLaws.{ending_fits}
+use Rattle.fips180.proofs.RunningLaws.{finished}
 use borrow.Author.Rules.{rules}
 use Rattle.fips180.proofs.last.Statement.{statement}
 use Rattle.fips180.proofs.last.Tie as tie

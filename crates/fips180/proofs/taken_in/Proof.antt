@@ -5,9 +5,9 @@ use native.Mathlib.Omega.{arith}
 use mathlib.Core.List.{List}
 use lib.ListN.{length, drop}
 use lib.Seq.{length-take-le}
-use Rattle.md.specs.FeedLaws.{part_end}
+use Rattle.md.proofs.FeedLaws.{part_end}
 use Rattle.fips180.specs.Running.{Continued}
-use Rattle.fips180.specs.RunningLaws.{take_aligned, take_short, take_long}
+use Rattle.fips180.proofs.RunningLaws.{take_aligned, take_short, take_long}
 use borrow.Author.Rules.{rules}
 use Rattle.fips180.proofs.taken_in.Statement.{statement}
 use Rattle.fips180.proofs.taken_in.Tie as tie

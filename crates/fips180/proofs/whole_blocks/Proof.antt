@@ -8,7 +8,7 @@ use borrow.Author.Rules.{rules}
 use lib.ListN.{length, get_or, take, drop, length-take, length-drop}
 use Rattle.md.specs.Chain.{absorb}
 use Rattle.fips180.specs.Sha1.{compressed}
-use Rattle.md.specs.ChainLaws.{absorb_zero, absorb_turn}
+use Rattle.md.proofs.ChainLaws.{absorb_zero, absorb_turn}
 use Rattle.fips180.proofs.whole_blocks.Statement.{statement}
 use Rattle.fips180.proofs.whole_blocks.Tie as tie
 

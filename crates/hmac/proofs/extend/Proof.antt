@@ -1,6 +1,6 @@
 -- A copy to the start of zeros is the key with zeros after it.
 use mathlib.Core.Path.{◌∙◌}
-use Rattle.hmac.specs.KeyLaws.{extended_law}
+use Rattle.hmac.proofs.KeyLaws.{extended_law}
 use borrow.Author.Rules.{rules}
 use Rattle.hmac.proofs.extend.Statement.{statement}
 use Rattle.hmac.proofs.extend.Tie as tie

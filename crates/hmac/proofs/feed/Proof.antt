@@ -1,7 +1,7 @@
 -- The inner hash takes in the part.
 use Rattle.fips180.specs.Running.{Holds}
 use Rattle.hmac.specs.Hmac.{by_sha1}
-use Rattle.hmac.specs.MacLaws.{mac_fed}
+use Rattle.hmac.proofs.MacLaws.{mac_fed}
 use borrow.Author.Rules.{rules}
 use Rattle.hmac.proofs.feed.Statement.{statement}
 use Rattle.hmac.proofs.feed.Tie as tie

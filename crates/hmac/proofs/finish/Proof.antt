@@ -1,7 +1,7 @@
 -- The inner digest goes into the outer hash, whose digest is the result.
 use Rattle.fips180.specs.Running.{Holds}
 use Rattle.hmac.specs.Hmac.{by_sha1}
-use Rattle.hmac.specs.MacLaws.{mac_finished}
+use Rattle.hmac.proofs.MacLaws.{mac_finished}
 use borrow.Author.Rules.{rules}
 use Rattle.hmac.proofs.finish.Statement.{statement}
 use Rattle.hmac.proofs.finish.Tie as tie

@@ -1,7 +1,7 @@
 -- A key of at most a block stands as it is; a longer one is hashed.
 use mathlib.Core.Path.{◌∙◌, sym, ap}
 use Rattle.hmac.specs.Hmac.{extended, by_sha1}
-use Rattle.hmac.specs.HmacLaws.{short_key, long_key}
+use Rattle.hmac.proofs.HmacLaws.{short_key, long_key}
 use borrow.Author.Rules.{rules}
 use Rattle.hmac.proofs.key_block.Statement.{statement}
 use Rattle.hmac.proofs.key_block.Tie as tie

@@ -6,7 +6,7 @@ use native.Mathlib.Omega.{arith}
 use borrow.Author.Rules.{rules}
 use lib.ListN.{length, take, drop, length-set}
 use Rattle.hmac.specs.Hmac.{masked}
-use Rattle.hmac.specs.KeyLaws.{masked_none, masked_more, masked_done}
+use Rattle.hmac.proofs.KeyLaws.{masked_none, masked_more, masked_done}
 use Rattle.hmac.proofs.mask.Statement.{statement}
 use Rattle.hmac.proofs.mask.Tie as tie
 

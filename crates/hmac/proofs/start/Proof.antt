@@ -3,7 +3,7 @@ use mathlib.Core.Path.{ap, ◌∙◌}
 use mathlib.Core.List.{[]}
 use Rattle.fips180.specs.Running.{Holds}
 use Rattle.hmac.specs.Hmac.{by_sha1, ipad, opad, masked}
-use Rattle.hmac.specs.MacLaws.{mac_started}
+use Rattle.hmac.proofs.MacLaws.{mac_started}
 use borrow.Author.Rules.{rules}
 use Rattle.hmac.proofs.start.Statement.{statement}
 use Rattle.hmac.proofs.start.Tie as tie

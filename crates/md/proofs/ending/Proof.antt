@@ -2,7 +2,7 @@
 use mathlib.Core.Path.{◌≡◌, refl}
 use native.Mathlib.Omega.{arith}
 use lib.ListN.{length}
-use Rattle.md.specs.PaddingLaws.{ending_fits, ending_law}
+use Rattle.md.proofs.PaddingLaws.{ending_fits, ending_law}
 use borrow.Author.Rules.{rules}
 use Rattle.md.proofs.ending.Statement.{statement}
 use Rattle.md.proofs.ending.Tie as tie

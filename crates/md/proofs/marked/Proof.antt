@@ -4,7 +4,7 @@ use Prim.Native.Nat.{◌-◌, ◌≤◌}
 use native.Mathlib.Omega.{arith}
 use lib.ListN.{length, length-set, replicate}
 use lib.Seq.{paste, paste-zero}
-use Rattle.md.specs.PaddingLaws.{copied_more, marked_law}
+use Rattle.md.proofs.PaddingLaws.{copied_more, marked_law}
 use borrow.Author.Rules.{rules}
 use Rattle.md.proofs.marked.Statement.{statement}
 use Rattle.md.proofs.marked.Tie as tie

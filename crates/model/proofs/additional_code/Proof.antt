@@ -2,7 +2,7 @@
 use mathlib.Core.Logic.{⊎_elim}
 use mathlib.Core.List.{[], ◌∷◌}
 use borrow.Author.Tests.{ne_eqb}
-use Rattle.model.specs.AmongLaws.{one_of_not}
+use Rattle.model.proofs.AmongLaws.{one_of_not}
 use Rattle.model.specs.Refusal.{additional_code}
 use Rattle.model.proofs.additional_code.Statement.{statement}
 use Rattle.model.proofs.additional_code.Tie as tie

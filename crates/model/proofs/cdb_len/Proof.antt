@@ -1,7 +1,7 @@
 -- Each arm is in its range, above those before it or between them.
 use native.Mathlib.Omega.{arith}
 use Rattle.model.specs.Codes.{cdb_len}
-use Rattle.model.specs.CodeLaws.{in_range, below_range, above_range}
+use Rattle.model.proofs.CodeLaws.{in_range, below_range, above_range}
 use Rattle.model.proofs.cdb_len.Statement.{statement}
 use Rattle.model.proofs.cdb_len.Tie as tie
 

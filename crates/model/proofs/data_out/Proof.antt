@@ -1,6 +1,6 @@
 -- The arm has the codes of the list.
 use mathlib.Core.Path.{sym}
-use Rattle.model.specs.AmongLaws.{one_of_in, one_of_not}
+use Rattle.model.proofs.AmongLaws.{one_of_in, one_of_not}
 use Rattle.model.specs.Codes.{data_out_codes, data_out}
 use Rattle.model.proofs.data_out.Statement.{statement}
 use Rattle.model.proofs.data_out.Tie as tie

@@ -1,7 +1,7 @@
 -- One patch, of the blank record.
 use Prim.Native.Nat.{◌*◌}
 use native.Mathlib.Omega.{arith}
-use Rattle.wire.specs.PatchLaws.{patch_lent}
+use Rattle.wire.proofs.PatchLaws.{patch_lent}
 use Rattle.slots.specs.Slot.{freed}
 use borrow.Author.Rules.{rules}
 use Rattle.slots.proofs.free.Statement.{statement}

@@ -5,7 +5,7 @@ use native.Mathlib.Omega.{arith}
 use lib.ListN.{length}
 use borrow.Author.Rules.{rules}
 use Rattle.slots.specs.Slot.{freed_from, all_freed}
-use Rattle.slots.specs.TableLaws.{freed_more, freed_none}
+use Rattle.slots.proofs.TableLaws.{freed_more, freed_none}
 use Rattle.slots.proofs.free_all.Statement.{statement}
 use Rattle.slots.proofs.free_all.Tie as tie
 

@@ -6,8 +6,8 @@ use lib.ListN.{length}
 use Rattle.wire.specs.Bytes.{same}
 use Rattle.seal.specs.Seal.{blank_record}
 use Rattle.slots.specs.Slot.{slot_at}
-use Rattle.slots.specs.SlotLaws.{free_blank}
-use Rattle.slots.specs.TableLaws.{slot_length}
+use Rattle.slots.proofs.SlotLaws.{free_blank}
+use Rattle.slots.proofs.TableLaws.{slot_length}
 use borrow.Author.Rules.{rules}
 use Rattle.slots.proofs.is_free_at.Statement.{statement}
 use Rattle.slots.proofs.is_free_at.Tie as tie

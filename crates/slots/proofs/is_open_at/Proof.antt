@@ -2,7 +2,7 @@
 use mathlib.Core.Path.{◌∙◌, ap}
 use lib.ListN.{length}
 use Rattle.slots.specs.Slot.{slot_state_of, is_open}
-use Rattle.slots.specs.TableLaws.{slot_length}
+use Rattle.slots.proofs.TableLaws.{slot_length}
 use borrow.Author.Rules.{rules}
 use Rattle.slots.proofs.is_open_at.Statement.{statement}
 use Rattle.slots.proofs.is_open_at.Tie as tie

@@ -4,7 +4,7 @@ use Prim.Native.Nat.{◌≤◌, ◌-◌}
 use native.Mathlib.Omega.{arith}
 use borrow.Author.Rules.{rules}
 use Rattle.slots.specs.Slot.{free_from, lowest_free}
-use Rattle.slots.specs.SearchLaws.{free_more, free_hit, free_none}
+use Rattle.slots.proofs.SearchLaws.{free_more, free_hit, free_none}
 use Rattle.slots.proofs.lowest_free.Statement.{statement}
 use Rattle.slots.proofs.lowest_free.Tie as tie
 

@@ -1,5 +1,5 @@
 -- The 512 bytes at their place.
-use Rattle.slots.specs.TableLaws.{slot_lent}
+use Rattle.slots.proofs.TableLaws.{slot_lent}
 use borrow.Author.Rules.{rules}
 use Rattle.slots.proofs.record_of.Statement.{statement}
 use Rattle.slots.proofs.record_of.Tie as tie

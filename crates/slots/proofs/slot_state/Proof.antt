@@ -1,6 +1,6 @@
 -- The blank record first, then the check, then the shape.
 use mathlib.Core.Path.{◌∙◌, sym}
-use Rattle.slots.specs.SlotLaws.{blank_free, checked_state, unchecked_state}
+use Rattle.slots.proofs.SlotLaws.{blank_free, checked_state, unchecked_state}
 use borrow.Author.Rules.{rules}
 use Rattle.slots.proofs.slot_state.Statement.{statement}
 use Rattle.slots.proofs.slot_state.Tie as tie

@@ -3,9 +3,9 @@ use mathlib.Core.Path.{◌∙◌, ap}
 use Prim.Native.Nat.{ℕ}
 use native.Mathlib.Omega.{arith}
 use Rattle.wire.specs.Bytes.{part}
-use Rattle.wire.specs.PatchLaws.{lent_part}
+use Rattle.wire.proofs.PatchLaws.{lent_part}
 use Rattle.slots.specs.Slot.{slot_token, token_length}
-use Rattle.slots.specs.SlotLaws.{open_fits}
+use Rattle.slots.proofs.SlotLaws.{open_fits}
 use borrow.Author.Rules.{rules}
 use Rattle.slots.proofs.token_of.Statement.{statement}
 use Rattle.slots.proofs.token_of.Tie as tie

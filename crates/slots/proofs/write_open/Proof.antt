@@ -1,5 +1,5 @@
 -- Zeros, three patches and the check.
-use Rattle.slots.specs.SlotLaws.{open_steps}
+use Rattle.slots.proofs.SlotLaws.{open_steps}
 use borrow.Author.Rules.{rules}
 use Rattle.slots.proofs.write_open.Statement.{statement}
 use Rattle.slots.proofs.write_open.Tie as tie

@@ -1,7 +1,7 @@
 -- Nothing is left where the room is used up.
 use mathlib.Core.Path.{sym}
 use native.Mathlib.Omega.{arith}
-use Rattle.wire.specs.ZeroLaws.{zeros_none}
+use Rattle.wire.proofs.ZeroLaws.{zeros_none}
 use borrow.Author.Rules.{rules}
 use Rattle.slots.proofs.zero_past.Statement.{statement}
 use Rattle.slots.proofs.zero_past.Tie as tie

@@ -2,7 +2,7 @@
 use mathlib.Core.Path.{◌≡◌, sym, ap, ◌∙◌, subst}
 use Prim.Native.Nat.{ℕ, ◌-◌, ◌<◌}
 use Rattle.units.specs.Unit.{keeper_field, keeper_of}
-use Rattle.units.specs.UnitLaws.{keeper_own, keeper_named, keeper_small}
+use Rattle.units.proofs.UnitLaws.{keeper_own, keeper_named, keeper_small}
 use borrow.Author.Rules.{rules}
 use Rattle.units.proofs.keeper_of.Statement.{statement}
 use Rattle.units.proofs.keeper_of.Tie as tie

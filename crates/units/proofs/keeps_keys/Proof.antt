@@ -3,7 +3,7 @@ use mathlib.Core.Path.{sym, ap, ap₂, ◌∙◌}
 use mathlib.Core.List.{List}
 use Prim.Native.Nat.{ℕ}
 use lib.ListN.{length}
-use Rattle.units.specs.UnitLaws.{unit_length, keeps_own, keeps_none}
+use Rattle.units.proofs.UnitLaws.{unit_length, keeps_own, keeps_none}
 use borrow.Author.Rules.{rules}
 use Rattle.units.proofs.keeps_keys.Statement.{statement}
 use Rattle.units.proofs.keeps_keys.Tie as tie

@@ -5,7 +5,7 @@ use native.Mathlib.Omega.{arith}
 use lib.Dec.{eqb}
 use Rattle.choice.specs.Choice.{both, either}
 use Rattle.units.specs.Unit.{keys_zero, is_valid, mask}
-use Rattle.units.specs.UnitLaws.{keys_zero_lem, keys_more}
+use Rattle.units.proofs.UnitLaws.{keys_zero_lem, keys_more}
 use borrow.Author.Rules.{rules}
 use Rattle.units.proofs.keys_zero.Statement.{statement}
 use Rattle.units.proofs.keys_zero.Tie as tie

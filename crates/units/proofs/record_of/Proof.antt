@@ -1,6 +1,6 @@
 -- The 512 bytes at their place.
 use Prim.Native.Nat.{◌*◌}
-use Rattle.wire.specs.PatchLaws.{lent_part}
+use Rattle.wire.proofs.PatchLaws.{lent_part}
 use borrow.Author.Rules.{rules}
 use Rattle.units.proofs.record_of.Statement.{statement}
 use Rattle.units.proofs.record_of.Tie as tie

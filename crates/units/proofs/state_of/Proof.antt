@@ -9,7 +9,7 @@ use Rattle.choice.specs.Choice.{both}
 use Rattle.wire.specs.Bytes.{same}
 use Rattle.seal.specs.Seal.{checked, blank_record}
 use Rattle.units.specs.Unit.{used_shape}
-use Rattle.units.specs.UnitLaws.{state_unused, state_used, state_unsound}
+use Rattle.units.proofs.UnitLaws.{state_unused, state_used, state_unsound}
 use borrow.Author.Rules.{rules}
 use Rattle.units.proofs.state_of.Statement.{statement}
 use Rattle.units.proofs.state_of.Tie as tie

@@ -5,7 +5,7 @@ use lib.ListN.{length}
 use Rattle.choice.specs.Choice.{pick}
 use Rattle.units.specs.declared.UnitState.TheVariants.{Used, Unsound}
 use Rattle.units.specs.Unit.{keeper_field, unit_at, unit_state_of, unit_state}
-use Rattle.units.specs.UnitLaws.{unit_length, is_used_lem, used_sound, state_own, state_unkept, state_kept}
+use Rattle.units.proofs.UnitLaws.{unit_length, is_used_lem, used_sound, state_own, state_unkept, state_kept}
 use borrow.Author.Rules.{rules}
 use Rattle.units.proofs.unit_state.Statement.{statement}
 use Rattle.units.proofs.unit_state.Tie as tie

@@ -6,7 +6,7 @@ use native.Mathlib.Omega.{arith}
 use lib.Dec.{eqb}
 use Rattle.choice.specs.Choice.{both}
 use Rattle.wire.specs.Bytes.{zeros}
-use Rattle.wire.specs.ZeroLaws.{zeros_more, zeros_done}
+use Rattle.wire.proofs.ZeroLaws.{zeros_more, zeros_done}
 use borrow.Author.Rules.{rules}
 use Rattle.wire.proofs.are_zeros.Statement.{statement}
 use Rattle.wire.proofs.are_zeros.Tie as tie

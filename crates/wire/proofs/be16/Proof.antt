@@ -1,7 +1,7 @@
 -- Two bytes, the high one first.
 use mathlib.Core.Path.{◌∙◌, sym, ap₂}
 use Prim.Native.Nat.{ℕ, ◌+◌, ◌*◌}
-use Rattle.wire.specs.NumberLaws.{number_two}
+use Rattle.wire.proofs.NumberLaws.{number_two}
 use borrow.Author.Rules.{rules}
 use Rattle.wire.proofs.be16.Statement.{statement}
 use Rattle.wire.proofs.be16.Tie as tie

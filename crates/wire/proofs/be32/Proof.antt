@@ -1,7 +1,7 @@
 -- Two numbers of two bytes, the high one first.
 use mathlib.Core.Path.{◌∙◌, sym, ap₂}
 use Prim.Native.Nat.{ℕ, ◌+◌, ◌*◌}
-use Rattle.wire.specs.NumberLaws.{number_add}
+use Rattle.wire.proofs.NumberLaws.{number_add}
 use borrow.Author.Rules.{rules}
 use Rattle.wire.proofs.be32.Statement.{statement}
 use Rattle.wire.proofs.be32.Tie as tie

@@ -4,7 +4,7 @@ use Prim.Native.Nat.{◌≤◌, ◌-◌}
 use native.Mathlib.Omega.{arith}
 use lib.ListN.{length}
 use borrow.Author.Rules.{rules}
-use Rattle.wire.specs.SameLaws.{Differs, differs_zero, differs_more, differs_done}
+use Rattle.wire.proofs.SameLaws.{Differs, differs_zero, differs_more, differs_done}
 use Rattle.wire.proofs.same20.Statement.{statement}
 use Rattle.wire.proofs.same20.Tie as tie
 

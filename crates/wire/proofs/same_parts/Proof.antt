@@ -3,7 +3,7 @@ use Prim.Native.Nat.{◌+◌, ◌≤◌, ◌-◌}
 use native.Mathlib.Omega.{arith}
 use lib.ListN.{length}
 use Rattle.wire.specs.Bytes.{part}
-use Rattle.wire.specs.SameLaws.{Differs, differs_zero, parts_more, parts_done}
+use Rattle.wire.proofs.SameLaws.{Differs, differs_zero, parts_more, parts_done}
 use borrow.Author.Rules.{rules}
 use Rattle.wire.proofs.same_parts.Statement.{statement}
 use Rattle.wire.proofs.same_parts.Tie as tie

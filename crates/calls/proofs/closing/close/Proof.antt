@@ -5,13 +5,13 @@ use mathlib.Core.List.{List}
 use Prim.Native.Nat.{ℕ}
 use lib.ListN.{length}
 use Rattle.slots.specs.Slot.{slot_state_of}
-use Rattle.slots.specs.TableLaws.{slot_length}
+use Rattle.slots.proofs.TableLaws.{slot_length}
 use Rattle.calls.specs.Outcome.{lent, tables}
-use Rattle.calls.specs.OutcomeLaws.{lengths_are}
+use Rattle.calls.proofs.OutcomeLaws.{lengths_are}
 use Rattle.calls.specs.Whole.{whole}
 use Rattle.calls.specs.Close.{held_by}
 use Rattle.calls.specs.Parts.{on_units}
-use Rattle.calls.specs.CloseLaws.{holds_open, close_h1, close_h3, close_held}
+use Rattle.calls.proofs.CloseLaws.{holds_open, close_h1, close_h3, close_held}
 use Rattle.calls.proofs.closing.close.Statement.{statement}
 use Rattle.calls.proofs.closing.close.Tie as tie
 

@@ -1,7 +1,7 @@
 -- The list is judged where nothing before it refuses.
 use borrow.Author.Rules.{rules}
 use Rattle.judge.specs.Seen.{seen}
-use Rattle.calls.specs.WholeLaws.{close_late, close_early}
+use Rattle.calls.proofs.WholeLaws.{close_late, close_early}
 use Rattle.calls.proofs.closing.close_reason.Statement.{statement}
 use Rattle.calls.proofs.closing.close_reason.Tie as tie
 

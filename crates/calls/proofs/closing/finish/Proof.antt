@@ -7,7 +7,7 @@ use Rattle.judge.specs.declared.facts.Facts.{Facts}
 use Rattle.judge.specs.Command.{code_of}
 use Rattle.judge.specs.Seen.{seen}
 use Rattle.calls.specs.Whole.{made_by, laid}
-use Rattle.calls.specs.CloseLaws.{list_asked, finishes_out, finishes_run}
+use Rattle.calls.proofs.CloseLaws.{list_asked, finishes_out, finishes_run}
 use Rattle.calls.proofs.closing.finish.Statement.{statement}
 use Rattle.calls.proofs.closing.finish.Tie as tie
 

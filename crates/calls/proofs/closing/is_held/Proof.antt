@@ -1,7 +1,7 @@
 -- Above 15 none; else by its record.
 use borrow.Author.Rules.{rules}
 use native.Mathlib.Omega.{arith}
-use Rattle.calls.specs.CloseLaws.{holds_high, holds_low}
+use Rattle.calls.proofs.CloseLaws.{holds_high, holds_low}
 use Rattle.calls.proofs.closing.is_held.Statement.{statement}
 use Rattle.calls.proofs.closing.is_held.Tie as tie
 

@@ -6,10 +6,10 @@ use Prim.Native.Nat.{ℕ}
 use Rattle.model.specs.Codes.{data_out}
 use Rattle.judge.specs.Command.{code_of}
 use Rattle.judge.specs.Seen.{seen}
-use Rattle.judge.specs.JudgementLaws.{open_passed}
-use Rattle.calls.specs.WholeLaws.{close_none, list_passed, not_replied, held_code}
+use Rattle.judge.proofs.JudgementLaws.{open_passed}
+use Rattle.calls.proofs.WholeLaws.{close_none, list_passed, not_replied, held_code}
 use Rattle.calls.specs.Close.{held_by}
-use Rattle.calls.specs.CloseLaws.{held_reason, held_passed, whole_passed, whole_refused}
+use Rattle.calls.proofs.CloseLaws.{held_reason, held_passed, whole_passed, whole_refused}
 use Rattle.calls.proofs.closing.judge_again.Statement.{statement}
 use Rattle.calls.proofs.closing.judge_again.Tie as tie
 

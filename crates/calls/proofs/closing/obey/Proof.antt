@@ -3,13 +3,13 @@ use borrow.Author.Rules.{rules}
 use mathlib.Core.Path.{sym, ap, ◌∙◌}
 use Prim.Native.Nat.{◌*◌}
 use native.Mathlib.Omega.{arith}
-use Rattle.wire.specs.PatchLaws.{patch_lent, lent_part}
+use Rattle.wire.proofs.PatchLaws.{patch_lent, lent_part}
 use Rattle.units.specs.Unit.{key_set_of}
 use Rattle.judge.specs.Seen.{seen}
 use Rattle.pages.specs.Out.{new_method, new_tag}
 use Rattle.pages.specs.Effects.{attributes_set, new_keys}
 use Rattle.calls.specs.Whole.{laid}
-use Rattle.calls.specs.CloseLaws.{made_attributes, made_keys}
+use Rattle.calls.proofs.CloseLaws.{made_attributes, made_keys}
 use Rattle.calls.proofs.closing.obey.Statement.{statement}
 use Rattle.calls.proofs.closing.obey.Tie as tie
 

@@ -4,7 +4,7 @@ use mathlib.Core.Path.{ap, ◌∙◌}
 use lib.ListN.{length}
 use Rattle.wire.specs.Bytes.{patch}
 use Rattle.judge.specs.Seen.{seen}
-use Rattle.calls.specs.OpenLaws.{reply_asked, answers_page, answers_run}
+use Rattle.calls.proofs.OpenLaws.{reply_asked, answers_page, answers_run}
 use Rattle.calls.proofs.opening.answer.Statement.{statement}
 use Rattle.calls.proofs.opening.answer.Tie as tie
 

@@ -4,15 +4,15 @@ use mathlib.Core.Path.{sym, ap, ◌∙◌}
 use native.Mathlib.Omega.{arith}
 use lib.ListN.{length}
 use Rattle.model.specs.Codes.{data_out}
-use Rattle.model.specs.CodeLaws.{legal_small}
+use Rattle.model.proofs.CodeLaws.{legal_small}
 use Rattle.judge.specs.declared.facts.Facts.{Facts}
 use Rattle.judge.specs.Command.{code_of}
 use Rattle.judge.specs.Seen.{seen}
-use Rattle.judge.specs.JudgementLaws.{open_passed}
+use Rattle.judge.proofs.JudgementLaws.{open_passed}
 use Rattle.calls.specs.Outcome.{lent, tables}
 use Rattle.calls.specs.Whole.{asked}
-use Rattle.calls.specs.WholeLaws.{out_code}
-use Rattle.calls.specs.OpenLaws.{judged_parks, judged_answers, judged_refuses}
+use Rattle.calls.proofs.WholeLaws.{out_code}
+use Rattle.calls.proofs.OpenLaws.{judged_parks, judged_answers, judged_refuses}
 use Rattle.calls.proofs.opening.judge_and_answer.Statement.{statement}
 use Rattle.calls.proofs.opening.judge_and_answer.Tie as tie
 

@@ -1,11 +1,11 @@
 -- The tests of the lengths, then the judgement.
 use borrow.Author.Rules.{rules}
 use mathlib.Core.Path.{sym, ◌∙◌}
-use Rattle.slots.specs.SlotLaws.{token_is}
+use Rattle.slots.proofs.SlotLaws.{token_is}
 use Rattle.calls.specs.Outcome.{lent, tables}
-use Rattle.calls.specs.OutcomeLaws.{lengths_are}
+use Rattle.calls.proofs.OutcomeLaws.{lengths_are}
 use Rattle.calls.specs.Whole.{asked}
-use Rattle.calls.specs.OpenLaws.{open_h1, open_h2, open_judged}
+use Rattle.calls.proofs.OpenLaws.{open_h1, open_h2, open_judged}
 use Rattle.calls.proofs.opening.open.Statement.{statement}
 use Rattle.calls.proofs.opening.open.Tie as tie
 

@@ -1,7 +1,7 @@
 -- Each arm is given what the search found.
 use borrow.Author.Rules.{rules}
 use mathlib.Core.Path.{sym, ◌∙◌}
-use Rattle.slots.specs.SearchLaws.{lowest}
+use Rattle.slots.proofs.SearchLaws.{lowest}
 use Rattle.calls.proofs.opening.park.Statement.{statement}
 use Rattle.calls.proofs.opening.park.Tie as tie
 

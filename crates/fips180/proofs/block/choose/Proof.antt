@@ -2,7 +2,7 @@
 use native.Mathlib.Omega.{arith}
 use mathlib.Core.Path.{◌≡◌, ◌∙◌, sym}
 use Prim.Native.Nat.{ℕ, ◌+◌, ◌*◌, ◌<◌, ◌≤◌}
-use Rattle.fips180.specs.Sha1Laws.{f_first, f_second, f_third, f_fourth}
+use Rattle.fips180.proofs.Sha1Laws.{f_first, f_second, f_third, f_fourth}
 use borrow.Author.Rules.{rules}
 use Rattle.fips180.proofs.block.choose.Statement.{statement}
 use Rattle.fips180.proofs.block.choose.Tie as tie

@@ -1,5 +1,5 @@
 -- Four twenties over the schedule of the block.
-use Rattle.fips180.specs.Sha1Laws.{chain_eighty}
+use Rattle.fips180.proofs.Sha1Laws.{chain_eighty}
 use borrow.Author.Rules.{rules}
 use Rattle.fips180.proofs.block.compress.Statement.{statement}
 use Rattle.fips180.proofs.block.compress.Tie as tie

@@ -1,7 +1,7 @@
 -- Each answer's range of t follows from q.
 use native.Mathlib.Omega.{arith}
 use mathlib.Core.Path.{sym}
-use Rattle.fips180.specs.Sha1Laws.{K_first, K_second, K_third, K_fourth}
+use Rattle.fips180.proofs.Sha1Laws.{K_first, K_second, K_third, K_fourth}
 use Rattle.fips180.proofs.block.constant.Statement.{statement}
 use Rattle.fips180.proofs.block.constant.Tie as tie
 

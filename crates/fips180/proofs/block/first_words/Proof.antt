@@ -4,7 +4,7 @@ use Prim.Native.Nat.{◌≤◌, ◌-◌}
 use native.Mathlib.Omega.{arith}
 use lib.ListN.{length, take, length-set}
 use Rattle.fips180.specs.Sha1.{schedule}
-use Rattle.fips180.specs.Sha1Laws.{schedule_zero, early_stored, begun_none}
+use Rattle.fips180.proofs.Sha1Laws.{schedule_zero, early_stored, begun_none}
 use borrow.Author.Rules.{rules}
 use Rattle.fips180.proofs.block.first_words.Statement.{statement}
 use Rattle.fips180.proofs.block.first_words.Tie as tie

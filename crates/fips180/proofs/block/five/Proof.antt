@@ -1,6 +1,6 @@
 -- Each round begins where the one before it left the schedule.
 use native.Mathlib.Omega.{arith}
-use Rattle.fips180.specs.Sha1Laws.{begun_at, chain_five}
+use Rattle.fips180.proofs.Sha1Laws.{begun_at, chain_five}
 use borrow.Author.Rules.{rules}
 use Rattle.fips180.proofs.block.five.Statement.{statement}
 use Rattle.fips180.proofs.block.five.Tie as tie

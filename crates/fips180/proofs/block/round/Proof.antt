@@ -1,6 +1,6 @@
 -- The word, f t and K t are those of round t.
 use mathlib.Core.Path.{◌∙◌}
-use Rattle.fips180.specs.Sha1Laws.{round_turned}
+use Rattle.fips180.proofs.Sha1Laws.{round_turned}
 use borrow.Author.Rules.{rules}
 use Rattle.fips180.proofs.block.round.Statement.{statement}
 use Rattle.fips180.proofs.block.round.Tie as tie

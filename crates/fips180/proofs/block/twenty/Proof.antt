@@ -1,7 +1,7 @@
 -- Each five begins where the one before it left the schedule.
 use Prim.Native.Nat.{◌*◌}
 use native.Mathlib.Omega.{arith}
-use Rattle.fips180.specs.Sha1Laws.{begun_at, chain_twenty}
+use Rattle.fips180.proofs.Sha1Laws.{begun_at, chain_twenty}
 use borrow.Author.Rules.{rules}
 use Rattle.fips180.proofs.block.twenty.Statement.{statement}
 use Rattle.fips180.proofs.block.twenty.Tie as tie

@@ -3,7 +3,7 @@ use mathlib.Core.Path.{◌∙◌, ap}
 use Prim.Native.Nat.{ℕ}
 use Rattle.words.specs.Words.{rotl}
 use Rattle.fips180.specs.Sha1.{mixed}
-use Rattle.fips180.specs.Sha1Laws.{early_word, late_word}
+use Rattle.fips180.proofs.Sha1Laws.{early_word, late_word}
 use borrow.Author.Rules.{rules}
 use Rattle.fips180.proofs.block.word.Statement.{statement}
 use Rattle.fips180.proofs.block.word.Tie as tie

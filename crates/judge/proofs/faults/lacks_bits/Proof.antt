@@ -3,7 +3,7 @@ use mathlib.Core.Path.{sym, ap}
 use mathlib.Core.Bool.{not}
 use Prim.Native.Nat.{ℕ}
 use lib.Dec.{eqb}
-use Rattle.judge.specs.FaultLaws.{and_bytes}
+use Rattle.judge.proofs.FaultLaws.{and_bytes}
 use Rattle.judge.specs.Faults.{lacks_bits}
 use Rattle.judge.proofs.faults.lacks_bits.Statement.{statement}
 use Rattle.judge.proofs.faults.lacks_bits.Tie as tie

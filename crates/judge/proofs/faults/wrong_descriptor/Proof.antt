@@ -3,7 +3,7 @@ use borrow.Author.Rules.{rules}
 use native.Mathlib.Omega.{arith}
 use lib.Seq.{take_all}
 use Rattle.units.specs.Unit.{identifier}
-use Rattle.units.specs.UnitLaws.{identifier_length}
+use Rattle.units.proofs.UnitLaws.{identifier_length}
 use Rattle.judge.specs.Descriptor.{descriptor_type, descriptor_length, descriptor_id}
 use Rattle.judge.specs.Faults.{wrong_descriptor}
 use Rattle.judge.proofs.faults.wrong_descriptor.Statement.{statement}

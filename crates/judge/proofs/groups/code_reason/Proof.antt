@@ -2,7 +2,7 @@
 use borrow.Author.Rules.{rules}
 use Rattle.judge.specs.Judgement.{code_tests}
 use Rattle.judge.specs.Command.{need_for}
-use Rattle.model.specs.RowLaws.{listed_by_need}
+use Rattle.model.proofs.RowLaws.{listed_by_need}
 use Rattle.judge.proofs.groups.code_reason.Statement.{statement}
 use Rattle.judge.proofs.groups.code_reason.Tie as tie
 

@@ -1,7 +1,7 @@
 -- Where CAPKEY doesn't rule neither test applies; else the key is looked for first.
 use borrow.Author.Rules.{rules}
 use mathlib.Core.Path.{refl, ap, ◌∙◌}
-use Rattle.judge.specs.JudgementLaws.{keys_unruled, keys_lacking, keys_judged}
+use Rattle.judge.proofs.JudgementLaws.{keys_unruled, keys_lacking, keys_judged}
 use Rattle.judge.specs.declared.facts.Facts.{Facts}
 use Rattle.model.specs.Rows.{is_master}
 use Rattle.judge.specs.Command.{need_for, is_change}

@@ -1,6 +1,6 @@
 -- The three groups, one after another.
 use borrow.Author.Rules.{rules}
-use Rattle.judge.specs.JudgementLaws.{earlier_order}
+use Rattle.judge.proofs.JudgementLaws.{earlier_order}
 use Rattle.judge.specs.Seen.{seen}
 use Rattle.judge.proofs.order.earlier_reason.Statement.{statement}
 use Rattle.judge.proofs.order.earlier_reason.Tie as tie

@@ -3,7 +3,7 @@ use borrow.Author.Rules.{rules}
 use mathlib.Core.Path.{sym, ap, ◌∙◌}
 use Rattle.model.specs.Rows.{is_open_row}
 use Rattle.judge.specs.declared.facts.Facts.{Facts}
-use Rattle.judge.specs.JudgementLaws.{skips_is, guard_skipped, guard_bare, guard_wrapped, wrapped_length}
+use Rattle.judge.proofs.JudgementLaws.{skips_is, guard_skipped, guard_bare, guard_wrapped, wrapped_length}
 use Rattle.judge.proofs.order.guard_reason.Statement.{statement}
 use Rattle.judge.proofs.order.guard_reason.Tie as tie
 

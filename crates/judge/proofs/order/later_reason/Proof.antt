@@ -1,6 +1,6 @@
 -- The protocol first; guard and page only where it finds nothing.
 use borrow.Author.Rules.{rules}
-use Rattle.judge.specs.JudgementLaws.{later_goes, later_stops}
+use Rattle.judge.proofs.JudgementLaws.{later_goes, later_stops}
 use Rattle.judge.proofs.order.later_reason.Statement.{statement}
 use Rattle.judge.proofs.order.later_reason.Tie as tie
 

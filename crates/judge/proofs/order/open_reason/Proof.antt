@@ -4,10 +4,10 @@ use mathlib.Core.Path.{ap, ap₂, ◌∙◌}
 use mathlib.Core.List.{List}
 use Prim.Native.Nat.{ℕ}
 use lib.ListN.{length}
-use Rattle.units.specs.UnitLaws.{unit_length, key_set_length}
+use Rattle.units.proofs.UnitLaws.{unit_length, key_set_length}
 use Rattle.judge.specs.Seen.{seen}
 use Rattle.judge.specs.Judgement.{first, later_tests}
-use Rattle.judge.specs.JudgementLaws.{earlier_passed, open_goes, open_stops}
+use Rattle.judge.proofs.JudgementLaws.{earlier_passed, open_goes, open_stops}
 use Rattle.judge.proofs.order.open_reason.Statement.{statement}
 use Rattle.judge.proofs.order.open_reason.Tie as tie
 

@@ -2,7 +2,7 @@
 use borrow.Author.Rules.{rules}
 use mathlib.Core.Path.{◌∙◌}
 use native.Mathlib.Omega.{arith}
-use Rattle.judge.specs.JudgementLaws.{descriptor_fits, descriptor_lent, value_lent, wrapped_goes, wrapped_stops}
+use Rattle.judge.proofs.JudgementLaws.{descriptor_fits, descriptor_lent, value_lent, wrapped_goes, wrapped_stops}
 use Rattle.judge.proofs.order.wrapped_reason.Statement.{statement}
 use Rattle.judge.proofs.order.wrapped_reason.Tie as tie
 

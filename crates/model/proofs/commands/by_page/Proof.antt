@@ -1,7 +1,7 @@
 -- The arm has the codes of the list.
 use mathlib.Core.Path.{sym}
 use mathlib.Core.List.{[], ◌∷◌}
-use Rattle.model.specs.AmongLaws.{one_of_in, one_of_not}
+use Rattle.model.proofs.AmongLaws.{one_of_in, one_of_not}
 use Rattle.model.proofs.commands.by_page.Statement.{statement}
 use Rattle.model.proofs.commands.by_page.Tie as tie
 

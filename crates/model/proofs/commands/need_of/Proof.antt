@@ -2,7 +2,7 @@
 use mathlib.Core.Path.{sym, ◌∙◌}
 use borrow.Author.Rules.{rules}
 use borrow.Author.Tests.{ne_eqb}
-use Rattle.model.specs.RowLaws.{need_by_entry, entry_by_page}
+use Rattle.model.proofs.RowLaws.{need_by_entry, entry_by_page}
 use Rattle.model.proofs.commands.need_of.Statement.{statement}
 use Rattle.model.proofs.commands.need_of.Tie as tie
 

@@ -1,6 +1,6 @@
 -- The two codes that go by page, and no other.
 use borrow.Author.Rules.{rules}
-use Rattle.model.specs.RowLaws.{page_code}
+use Rattle.model.proofs.RowLaws.{page_code}
 use Rattle.model.proofs.commands.page_need.Statement.{statement}
 use Rattle.model.proofs.commands.page_need.Tie as tie
 

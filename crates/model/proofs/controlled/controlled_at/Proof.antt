@@ -5,7 +5,7 @@ use borrow.Author.Rules.{rules}
 use lib.ListN.{get_or-eq_default}
 use Rattle.model.specs.Rows.{rows}
 use Rattle.model.specs.Controlled.{ascending, controlled}
-use Rattle.model.specs.ControlledLaws.{controlled_length}
+use Rattle.model.proofs.ControlledLaws.{controlled_length}
 use Rattle.model.proofs.controlled.controlled_at.Statement.{statement}
 use Rattle.model.proofs.controlled.controlled_at.Tie as tie
 

@@ -1,6 +1,6 @@
 -- The call's outcome, packed.
 use borrow.Author.Rules.{rules}
-use Rattle.nectarnook.specs.PackedLaws.{out_packed}
+use Rattle.nectarnook.proofs.PackedLaws.{out_packed}
 use Rattle.nectarnook.proofs.face.nn_open.Statement.{statement}
 use Rattle.nectarnook.proofs.face.nn_open.Tie as tie
 

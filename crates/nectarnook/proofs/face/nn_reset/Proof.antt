@@ -1,6 +1,6 @@
 -- The call's outcome, packed.
 use borrow.Author.Rules.{rules}
-use Rattle.nectarnook.specs.PackedLaws.{one_packed}
+use Rattle.nectarnook.proofs.PackedLaws.{one_packed}
 use Rattle.nectarnook.proofs.face.nn_reset.Statement.{statement}
 use Rattle.nectarnook.proofs.face.nn_reset.Tie as tie
 

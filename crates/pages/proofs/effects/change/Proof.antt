@@ -1,5 +1,5 @@
 -- Setter by setter as the definition has it, and the check.
-use Rattle.pages.specs.StepLaws.{changed_steps}
+use Rattle.pages.proofs.StepLaws.{changed_steps}
 use borrow.Author.Rules.{rules}
 use Rattle.pages.proofs.effects.change.Statement.{statement}
 use Rattle.pages.proofs.effects.change.Tie as tie

@@ -1,5 +1,5 @@
 -- Setter by setter as the definition has it, and the check.
-use Rattle.pages.specs.StepLaws.{exchanged_steps}
+use Rattle.pages.proofs.StepLaws.{exchanged_steps}
 use borrow.Author.Rules.{rules}
 use Rattle.pages.proofs.effects.exchange.Statement.{statement}
 use Rattle.pages.proofs.effects.exchange.Tie as tie

@@ -1,7 +1,7 @@
 -- The sixteen bytes, copied, and the last one flipped.
 use mathlib.Core.Path.{refl}
-use Rattle.units.specs.UnitLaws.{identifier_length}
-use Rattle.pages.specs.StepLaws.{flipped_steps}
+use Rattle.units.proofs.UnitLaws.{identifier_length}
+use Rattle.pages.proofs.StepLaws.{flipped_steps}
 use native.Mathlib.Omega.{arith}
 use borrow.Author.Rules.{rules}
 use Rattle.pages.proofs.effects.flipped_identifier.Statement.{statement}

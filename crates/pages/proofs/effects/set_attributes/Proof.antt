@@ -1,7 +1,7 @@
 -- Method, tag and the check, with what stands at the front of the list.
 use mathlib.Core.Path.{refl}
 use Rattle.pages.specs.Effects.{attributes_set}
-use Rattle.pages.specs.FrontLaws.{attributes_obeyed}
+use Rattle.pages.proofs.FrontLaws.{attributes_obeyed}
 use borrow.Author.Rules.{rules}
 use Rattle.pages.proofs.effects.set_attributes.Statement.{statement}
 use Rattle.pages.proofs.effects.set_attributes.Tie as tie

@@ -1,5 +1,5 @@
 -- The mask with its bit, the key, and the check.
-use Rattle.pages.specs.StepLaws.{key_steps}
+use Rattle.pages.proofs.StepLaws.{key_steps}
 use borrow.Author.Rules.{rules}
 use Rattle.pages.proofs.effects.set_key.Statement.{statement}
 use Rattle.pages.proofs.effects.set_key.Tie as tie

@@ -1,7 +1,7 @@
 -- Each arm does what its page says, with what stands in the list; a page of no arm leaves the key set as it was.
 use borrow.Author.Tests.{ne_eqb}
 use Rattle.pages.specs.Effects.{new_keys}
-use Rattle.pages.specs.FrontLaws.{key_version_lem, key_run, exchange_run, key_obeyed, exchange_obeyed}
+use Rattle.pages.proofs.FrontLaws.{key_version_lem, key_run, exchange_run, key_obeyed, exchange_obeyed}
 use borrow.Author.Rules.{rules}
 use Rattle.pages.proofs.effects.set_keys.Statement.{statement}
 use Rattle.pages.proofs.effects.set_keys.Tie as tie

@@ -2,7 +2,7 @@
 use native.Mathlib.Omega.{arith}
 use borrow.Author.Tests.{eq-eqb, ne_eqb}
 use Rattle.pages.specs.Effects.{with_bit}
-use Rattle.pages.specs.BitLaws.{bit_fits, bit_shifted}
+use Rattle.pages.proofs.BitLaws.{bit_fits, bit_shifted}
 use borrow.Author.Rules.{rules}
 use Rattle.pages.proofs.effects.with_bit.Statement.{statement}
 use Rattle.pages.proofs.effects.with_bit.Tie as tie

@@ -1,5 +1,5 @@
 -- What is read at the page's widths.
-use Rattle.pages.specs.FrontLaws.{widths_small, front_read}
+use Rattle.pages.proofs.FrontLaws.{widths_small, front_read}
 use borrow.Author.Rules.{rules}
 use Rattle.pages.proofs.lists.front_of.Statement.{statement}
 use Rattle.pages.proofs.lists.front_of.Tie as tie

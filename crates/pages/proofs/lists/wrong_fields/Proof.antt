@@ -1,7 +1,7 @@
 -- Each arm's page has its own test; of the others only Change is right.
 use borrow.Author.Tests.{ne_eqb}
 use Rattle.pages.specs.Out.{wrong_fields}
-use Rattle.pages.specs.FrontLaws.{attributes_judged, key_judged, exchange_judged}
+use Rattle.pages.proofs.FrontLaws.{attributes_judged, key_judged, exchange_judged}
 use borrow.Author.Rules.{rules}
 use Rattle.pages.proofs.lists.wrong_fields.Statement.{statement}
 use Rattle.pages.proofs.lists.wrong_fields.Tie as tie

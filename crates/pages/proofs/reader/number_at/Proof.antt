@@ -3,7 +3,7 @@ use mathlib.Core.Path.{◌≡◌}
 use Prim.Native.Nat.{◌≤◌, ◌<◌, ◌-◌, ◌^◌}
 use native.Mathlib.Omega.{arith}
 use Rattle.wire.specs.Bytes.{number}
-use Rattle.pages.specs.OutLaws.{number_empty, number_more, below_more, below_four}
+use Rattle.pages.proofs.OutLaws.{number_empty, number_more, below_more, below_four}
 use borrow.Author.Rules.{rules}
 use Rattle.pages.proofs.reader.number_at.Statement.{statement}
 use Rattle.pages.proofs.reader.number_at.Tie as tie

@@ -4,7 +4,7 @@ use native.Mathlib.Omega.{arith}
 use lib.ListN.{get_or-eq_default}
 use Rattle.wire.specs.Bytes.{bytes_of}
 use Rattle.pages.specs.In.{attributes_page}
-use Rattle.pages.specs.InLaws.{attributes_length, attributes_at}
+use Rattle.pages.proofs.InLaws.{attributes_length, attributes_at}
 use borrow.Author.Rules.{rules}
 use Rattle.pages.proofs.replies.attributes_at.Statement.{statement}
 use Rattle.pages.proofs.replies.attributes_at.Tie as tie

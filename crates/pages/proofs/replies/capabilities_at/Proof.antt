@@ -3,7 +3,7 @@ use mathlib.Core.Path.{refl, sym}
 use native.Mathlib.Omega.{arith}
 use lib.ListN.{get_or-eq_default}
 use Rattle.pages.specs.In.{capabilities}
-use Rattle.pages.specs.InLaws.{capabilities_length}
+use Rattle.pages.proofs.InLaws.{capabilities_length}
 use borrow.Author.Rules.{rules}
 use Rattle.pages.proofs.replies.capabilities_at.Statement.{statement}
 use Rattle.pages.proofs.replies.capabilities_at.Tie as tie

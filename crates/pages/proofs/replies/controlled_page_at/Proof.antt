@@ -3,7 +3,7 @@ use mathlib.Core.Path.{sym, ◌∙◌}
 use Rattle.model.specs.Controlled.{controlled}
 use Rattle.model.specs.Protocol.{controlled_in}
 use Rattle.pages.specs.In.{controlled_page}
-use Rattle.pages.specs.InLaws.{framed_at, controlled_head}
+use Rattle.pages.proofs.InLaws.{framed_at, controlled_head}
 use borrow.Author.Rules.{rules}
 use Rattle.pages.proofs.replies.controlled_page_at.Statement.{statement}
 use Rattle.pages.proofs.replies.controlled_page_at.Tie as tie

@@ -4,7 +4,7 @@ use native.Mathlib.Omega.{arith}
 use lib.ListN.{get_or-eq_default}
 use Rattle.wire.specs.Bytes.{bytes_of}
 use Rattle.pages.specs.In.{supported_in}
-use Rattle.pages.specs.InLaws.{supported_in_length}
+use Rattle.pages.proofs.InLaws.{supported_in_length}
 use borrow.Author.Rules.{rules}
 use Rattle.pages.proofs.replies.supported_in_at.Statement.{statement}
 use Rattle.pages.proofs.replies.supported_in_at.Tie as tie

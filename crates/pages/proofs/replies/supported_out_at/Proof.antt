@@ -4,7 +4,7 @@ use native.Mathlib.Omega.{arith}
 use lib.ListN.{get_or-eq_default}
 use Rattle.wire.specs.Bytes.{bytes_of}
 use Rattle.pages.specs.In.{supported_out}
-use Rattle.pages.specs.InLaws.{supported_out_length}
+use Rattle.pages.proofs.InLaws.{supported_out_length}
 use borrow.Author.Rules.{rules}
 use Rattle.pages.proofs.replies.supported_out_at.Statement.{statement}
 use Rattle.pages.proofs.replies.supported_out_at.Tie as tie

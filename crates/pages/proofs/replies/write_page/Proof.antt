@@ -4,9 +4,9 @@ use mathlib.Core.List.{◌++◌}
 use Prim.Native.Nat.{◌≤◌, ◌-◌}
 use native.Mathlib.Omega.{arith}
 use lib.ListN.{length, take, drop, length-set}
-use Rattle.pages.specs.CopyLaws.{copy_more, copy_patch}
+use Rattle.pages.proofs.CopyLaws.{copy_more, copy_patch}
 use Rattle.pages.specs.In.{in_page}
-use Rattle.pages.specs.InLaws.{page_size, size_small}
+use Rattle.pages.proofs.InLaws.{page_size, size_small}
 use borrow.Author.Rules.{rules}
 use Rattle.pages.proofs.replies.write_page.Statement.{statement}
 use Rattle.pages.proofs.replies.write_page.Tie as tie

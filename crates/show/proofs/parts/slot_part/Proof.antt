@@ -1,7 +1,7 @@
 -- The record is unsound, and then its part.
 use mathlib.Core.Path.{◌∙◌, ap}
 use lib.ListN.{length}
-use Rattle.slots.specs.TableLaws.{slot_length}
+use Rattle.slots.proofs.TableLaws.{slot_length}
 use Rattle.show.specs.Parts.{slot_part}
 use borrow.Author.Rules.{rules}
 use Rattle.show.proofs.parts.slot_part.Statement.{statement}

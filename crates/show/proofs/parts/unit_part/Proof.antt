@@ -1,7 +1,7 @@
 -- The record is unsound, and then its part.
 use mathlib.Core.Path.{◌∙◌, ap}
 use lib.ListN.{length}
-use Rattle.units.specs.UnitLaws.{unit_length}
+use Rattle.units.proofs.UnitLaws.{unit_length}
 use Rattle.show.specs.Parts.{unit_part}
 use borrow.Author.Rules.{rules}
 use Rattle.show.proofs.parts.unit_part.Statement.{statement}

@@ -1,7 +1,7 @@
 -- The record has 512 bytes.
 use mathlib.Core.Path.{◌∙◌, ap}
 use lib.ListN.{length}
-use Rattle.slots.specs.TableLaws.{slot_length}
+use Rattle.slots.proofs.TableLaws.{slot_length}
 use borrow.Author.Rules.{rules}
 use Rattle.show.proofs.slot.put_there.Statement.{statement}
 use Rattle.show.proofs.slot.put_there.Tie as tie

@@ -1,7 +1,7 @@
 -- The record has 512 bytes.
 use mathlib.Core.Path.{◌∙◌, ap}
 use lib.ListN.{length}
-use Rattle.units.specs.UnitLaws.{unit_length}
+use Rattle.units.proofs.UnitLaws.{unit_length}
 use borrow.Author.Rules.{rules}
 use Rattle.show.proofs.unit.put_there.Statement.{statement}
 use Rattle.show.proofs.unit.put_there.Tie as tie

@@ -5,7 +5,7 @@ use mathlib.Core.Path.{ap}
 use Prim.Native.Nat.{ℕ}
 use native.Mathlib.Omega.{arith}
 use lib.ListN.{length}
-use Rattle.wire.specs.PatchLaws.{patch_all}
+use Rattle.wire.proofs.PatchLaws.{patch_all}
 use Rattle.text.specs.Hex.{digits_of}
 use Rattle.text.specs.HexLaws.{digits_length}
 use mathlib.Core.Path.{◌≡◌}

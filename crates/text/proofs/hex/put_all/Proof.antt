@@ -13,7 +13,7 @@ use mathlib.Core.List.{List}
 use lib.ListN.{get_or}
 use Rattle.text.specs.Place.{with_text}
 use Rattle.text.specs.Hex.{two_digits}
-use Rattle.wire.specs.PatchLaws.{length_patch, patch_none}
+use Rattle.wire.proofs.PatchLaws.{length_patch, patch_none}
 use borrow.Author.Rules.{rules}
 use Rattle.text.proofs.hex.put_all.Statement.{statement}
 use Rattle.text.proofs.hex.put_all.Tie as tie

@@ -11,7 +11,7 @@ use Prim.Native.Nat.{ℕ}
 use Rattle.text.specs.HexLaws.{bytes_none, bytes_more}
 use mathlib.Core.Path.{ap₂}
 use mathlib.Core.List.{List, [], ◌∷◌}
-use Rattle.wire.specs.PatchLaws.{length_patch, patch_none}
+use Rattle.wire.proofs.PatchLaws.{length_patch, patch_none}
 use borrow.Author.Rules.{rules}
 use Rattle.text.proofs.hex.put_bytes.Statement.{statement}
 use Rattle.text.proofs.hex.put_bytes.Tie as tie

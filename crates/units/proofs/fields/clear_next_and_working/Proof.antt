@@ -3,7 +3,7 @@ use mathlib.Core.Path.{◌≡◌, ◌∙◌, ap}
 use Prim.Native.Nat.{ℕ}
 use native.Mathlib.Omega.{arith}
 use lib.ListN.{length, take, drop, replicate, length-take, length-drop}
-use Rattle.wire.specs.PatchLaws.{patch_lent}
+use Rattle.wire.proofs.PatchLaws.{patch_lent}
 use borrow.Author.Rules.{rules}
 use Rattle.units.proofs.fields.clear_next_and_working.Statement.{statement}
 use Rattle.units.proofs.fields.clear_next_and_working.Tie as tie

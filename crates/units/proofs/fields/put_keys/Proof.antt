@@ -5,7 +5,7 @@ use Prim.Native.Nat.{ℕ, ◌+◌}
 use native.Mathlib.Omega.{arith}
 use lib.ListN.{length}
 use Rattle.wire.specs.Bytes.{patch}
-use Rattle.wire.specs.PatchLaws.{patch_join}
+use Rattle.wire.proofs.PatchLaws.{patch_join}
 use borrow.Author.Rules.{rules}
 use Rattle.units.proofs.fields.put_keys.Statement.{statement}
 use Rattle.units.proofs.fields.put_keys.Tie as tie

@@ -1,7 +1,7 @@
 -- The numbers, the identifier, the keys, whose keys, the check.
 use mathlib.Core.Path.{◌≡◌}
 use lib.ListN.{length}
-use Rattle.units.specs.RoundLaws.{built_steps}
+use Rattle.units.proofs.RoundLaws.{built_steps}
 use borrow.Author.Rules.{rules}
 use Rattle.units.proofs.fields.write_built.Statement.{statement}
 use Rattle.units.proofs.fields.write_built.Tie as tie

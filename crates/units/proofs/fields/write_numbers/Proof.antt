@@ -1,6 +1,6 @@
 -- Zeros, one number right behind another.
 use Rattle.seal.specs.BlankLaws.{blank_is}
-use Rattle.units.specs.RoundLaws.{numbers_steps}
+use Rattle.units.proofs.RoundLaws.{numbers_steps}
 use borrow.Author.Rules.{rules}
 use Rattle.units.proofs.fields.write_numbers.Statement.{statement}
 use Rattle.units.proofs.fields.write_numbers.Tie as tie

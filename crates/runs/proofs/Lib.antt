@@ -1,0 +1,21 @@
+-- laws of the definitions of specs/
+pub mod AfterChange
+pub mod Apart
+pub mod EachStep
+pub mod Engineer
+pub mod FinalLaws
+pub mod Full
+pub mod GoodChecked
+pub mod HistoryLaws
+pub mod KeySets
+pub mod Leaves
+pub mod Local
+pub mod Named
+pub mod OneRun
+pub mod Sequence
+pub mod Shared
+pub mod Start
+pub mod StepLaws
+pub mod Tokens
+pub mod WholeCalls
+pub mod WholeLaws

@@ -1,0 +1,3 @@
+-- laws of the definitions of specs/
+pub mod RoundLaws
+pub mod UnitLaws
