@@ -1,4 +1,6 @@
 // Both and either of two tests, as functions: straight-line code mirrors a definition made of them.
+#![tactic(auto)]
+
 ghost use Rattle.std.specs.Prelude.{◌≡◌};
 ghost use Rattle.choice.specs.Choice.{both, either};
 

@@ -1,6 +1,7 @@
 // Digests on request. Each line of standard input is `hash MESSAGE` or `mac KEY MESSAGE`, in hex with `-` for none; each is
 // answered by a line with the SHA-1 of the message or its HMAC-SHA1 under the key. Lines of up to 16,384 bytes. What failed is said on
 // standard error at the end.
+#![tactic(auto)]
 use libc::STDOUT_FILENO;
 use text::{Told, word_at, word_end};
 

@@ -1,4 +1,5 @@
 // SHA-1 (FIPS 180-4) over lent bytes: a running state that takes parts one after another, and the digest.
+#![tactic(auto)]
 mod block;
 
 ghost use Rattle.std.specs.Prelude.{◌≡◌, List, [], ℕ, ◌/◌, ◌%◌, length};

@@ -1,5 +1,6 @@
 // A listing of calls: its lines read (`words`, `lines`), and what is printed for each (`answers`). One call to a line, words parted by
 // spaces and tabs; `#` starts a comment. docs/MANUAL.md has the words of each call and the answers.
+#![tactic(auto)]
 mod answers;
 mod lines;
 mod words;

@@ -1,4 +1,6 @@
 // The numbers that calls pass, their answers, and what each command needs (document 01).
+#![tactic(auto)]
+
 mod commands;
 mod controlled;
 

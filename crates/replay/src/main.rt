@@ -1,6 +1,7 @@
 // Replays a listing of calls: reads it from standard input, makes each call on tables of its own and prints an answer a line. At the
 // start there are eight unused units, sixteen free slots and a reply of zeros. Lines of up to 4,096 bytes; listings of any length. What
 // failed is said on standard error at the end.
+#![tactic(auto)]
 ghost use Rattle.std.specs.Prelude.{◌≤◌, length};
 
 use libc::STDOUT_FILENO;

@@ -1,5 +1,6 @@
 // Text that the programs read and write: bytes put into a lent buffer, hex and decimal in both directions, the words of a line, lists of
 // texts, the lines of standard input, and what is said at the end where something failed.
+#![tactic(auto)]
 mod decimal;
 mod hex;
 mod lines;

@@ -1,4 +1,6 @@
 // Bytes in lent lists: total reads, big-endian numbers, zeros, equality, and one write.
+#![tactic(auto)]
+
 ghost use Rattle.std.specs.Prelude.{◌≡◌, ◌⊎◌, ◌+◌, ◌≤◌, ◌<◌, length, get_or};
 ghost use Rattle.wire.specs.Bytes.{same, part, number, bytes_of, zeros, patch};
 

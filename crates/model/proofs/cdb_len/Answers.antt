@@ -2,38 +2,37 @@
 use native.Mathlib.Omega.{arith}
 use Rattle.model.specs.Codes.{cdb_len}
 use Rattle.model.proofs.CodeLaws.{in_range, below_range, above_range}
-use Rattle.model.proofs.cdb_len.Statement.{statement}
-use Rattle.model.proofs.cdb_len.Tie as tie
+use Rattle.model.proofs.cdb_len.Goals as goal
 
-returns : tie.Need-returns
+pub returns-in-0-to-31 : goal.returns-in-0-to-31
 unfolding cdb_len
-returns c =
-    let k = c.before.args.code in
+returns-in-0-to-31 c =
+    let k = c.args.code in
     simp (in_range 0x00 0x1F k (omega arith) (omega arith))
 
-returns-2 : tie.Need-returns-2
+pub returns-in-32-to-95 : goal.returns-in-32-to-95
 unfolding cdb_len
-returns-2 c =
-    let k = c.before.before.args.code in
+returns-in-32-to-95 c =
+    let k = c.args.code in
     simp (
       above_range 0x00 0x1F k (omega arith),
       in_range 0x20 0x5F k (omega arith) (omega arith),
     )
 
-returns-3 : tie.Need-returns-3
+pub returns-in-128-to-159 : goal.returns-in-128-to-159
 unfolding cdb_len
-returns-3 c =
-    let k = c.before.before.before.before.args.code in
+returns-in-128-to-159 c =
+    let k = c.args.code in
     simp (
       above_range 0x00 0x1F k (omega arith),
       above_range 0x20 0x5F k (omega arith),
       in_range 0x80 0x9F k (omega arith) (omega arith),
     )
 
-returns-4 : tie.Need-returns-4
+pub returns-in-160-to-191 : goal.returns-in-160-to-191
 unfolding cdb_len
-returns-4 c =
-    let k = c.before.before.before.before.before.args.code in
+returns-in-160-to-191 c =
+    let k = c.args.code in
     simp (
       above_range 0x00 0x1F k (omega arith),
       above_range 0x20 0x5F k (omega arith),
@@ -41,10 +40,10 @@ returns-4 c =
       in_range 0xA0 0xBF k (omega arith) (omega arith),
     )
 
-returns-5 : tie.Need-returns-5
+pub returns-in_default : goal.returns-in_default
 unfolding cdb_len
-returns-5 c =
-    let k = c.before.before.before.args.code in
+returns-in_default c =
+    let k = c.args.code in
     simp (
       above_range 0x00 0x1F k (omega arith),
       above_range 0x20 0x5F k (omega arith),
@@ -52,16 +51,13 @@ returns-5 c =
       below_range 0xA0 0xBF k (omega arith),
     )
 
-returns-6 : tie.Need-returns-6
+pub returns-in_default-2 : goal.returns-in_default-2
 unfolding cdb_len
-returns-6 c =
-    let k = c.before.before.before.before.before.args.code in
+returns-in_default-2 c =
+    let k = c.args.code in
     simp (
       above_range 0x00 0x1F k (omega arith),
       above_range 0x20 0x5F k (omega arith),
       above_range 0x80 0x9F k (omega arith),
       above_range 0xA0 0xBF k (omega arith),
     )
-
-pub cdb-len-spec : {M : Type 1} → statement M
-cdb-len-spec = tie.close (tie.spec returns returns-2 returns-3 returns-4 returns-5 returns-6)
