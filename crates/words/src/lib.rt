@@ -1,5 +1,6 @@
 // Words of 32 bits: the operations on them that FIPS 180-4 names, and their big-endian bytes.
 #![tactic(auto)]
+
 ghost use Rattle.std.specs.Prelude.{◌≡◌, ◌+◌, ◌%◌, ◌^◌, ◌<◌, ◌≤◌, length};
 ghost use Rattle.std.proofs.lemmas.List.Edits.{sets};
 ghost use Rattle.words.specs.Words.{rotl, add32, xor32, ch, parity, maj, word_at, bytes32};
