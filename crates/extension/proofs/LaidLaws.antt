@@ -2,7 +2,7 @@
 -- 40h, in whatever order the descriptors stand.
 use Rattle.std.proofs.Math.Path.{◌≡◌}
 use Rattle.std.specs.Prelude.{refl, Bool, true, false, not, ℕ, zero, suc, ◌+◌, ◌≤◌, ◌<◌, eqb, ltb, leb, get_or, take, drop}
-use Rattle.std.proofs.Common.{◌∙◌, sym, ap, ap₂, add-one, length-append, length-drop, take-append-drop, take_at, drop_at, drop-drop, length-take-le, get_or-take, eqb-true, eq-eqb, ne_eqb, ltb-true, ltb-false, lt-ltb, le-ltb, le-leb}
+use Rattle.std.proofs.Common.{◌∙◌, sym, ap, ap₂, length-append, length-drop, take-append-drop, take_at, drop_at, drop-drop, length-take-le, get_or-take, eqb-true, ltb-true, ltb-false, lt-ltb, le-leb}
 use mathlib.Core.List.{List, [], ◌∷◌, ◌++◌, append_assoc}
 use native.Mathlib.Omega.{arith}
 use Rattle.std.proofs.Math.Dec.{leb-suc-zero, leb-suc-suc, leb-zero, eqb-suc-zero}
@@ -10,9 +10,8 @@ use Rattle.std.proofs.Math.ListN.{length, get_or-append}
 use Rattle.std.proofs.lemmas.Bool.{eqb-false, lt-leb}
 use Rattle.choice.specs.Choice.{pick, both, either}
 use Rattle.choice.specs.ChoiceLaws.{both_none, either_right}
-use Rattle.wire.specs.Bytes.{part}
-use Rattle.model.specs.Codes.{within, cdb_len}
-use Rattle.extension.specs.Extension.{type_of, body_length, body_of, behind, is_cut, Carried, nothing, body, wrong, is_body, carrying, one_more, is_empty, list_from, cdb_of, carried_by, reduces, wrapped_with, reduced}
+use Rattle.model.specs.Codes.{cdb_len}
+use Rattle.extension.specs.Extension.{body_length, body_of, behind, is_cut, Carried, nothing, body, wrong, is_body, carrying, one_more, is_empty, list_from, cdb_of, carried_by, reduces, wrapped_with, reduced}
 use Rattle.extension.specs.Laid.{Descriptor, laid, count, is_carrier, is_passed_over, carriers, other_type, other_length, carrier_body, causes, any_of}
 use Rattle.extension.proofs.ListLaws.{list_end, list_full, list_cut, list_more}
 use Rattle.extension.proofs.ReducedLaws.{carried_long, carried_short, reduces_carries, reduced_is}

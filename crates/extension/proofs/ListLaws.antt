@@ -1,8 +1,8 @@
 -- Laws of a list as it is read: at its end, where no more descriptors may come, and one descriptor followed by a shorter list; and of one
 -- that is read in place, from a byte of the command on.
 use Prim.{Unit}
-use Rattle.std.specs.Prelude.{◌≡◌, refl, Bool, true, false, List, [], ℕ, zero, suc, ◌+◌, ◌-◌, ◌≤◌, ◌<◌, eqb, ltb, length, take, drop, get_or}
-use Rattle.std.proofs.Common.{◌∙◌, sym, ap, ap₂, subst, add-zero, add-one, arith, length-take, length-drop, drop-drop, get_or-drop, eqb-true, eq-eqb, ne_eqb, ltb-true, lt-ltb, le-ltb}
+use Rattle.std.specs.Prelude.{◌≡◌, List, ℕ, zero, suc, ◌+◌, ◌-◌, ◌≤◌, ◌<◌, eqb, length, take, drop, get_or}
+use Rattle.std.proofs.Common.{◌∙◌, sym, ap, ap₂, subst, add-zero, add-one, arith, length-drop, drop-drop, get_or-drop, eqb-true, eq-eqb, ne_eqb, lt-ltb, le-ltb}
 use Rattle.choice.specs.Choice.{pick}
 use Rattle.choice.specs.ChoiceLaws.{pick_holds, pick_cases}
 use Rattle.wire.specs.Bytes.{part}

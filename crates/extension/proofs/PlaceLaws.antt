@@ -1,13 +1,11 @@
 -- Laws of what is carried where the code keeps its place: a 40h, one descriptor more, and the end.
-use Rattle.std.specs.Prelude.{◌≡◌, refl, Bool, true, false, List, ℕ, zero, suc, ◌+◌, ◌-◌, ◌≤◌, ◌<◌, eqb, ltb, length, take, drop}
-use Rattle.std.proofs.Common.{◌∙◌, sym, ap, arith, length-take, length-drop, eqb-true, eq-eqb, ne_eqb}
-use Rattle.choice.specs.Choice.{pick}
+use Rattle.std.specs.Prelude.{◌≡◌, List, ℕ, ◌+◌, ◌≤◌, ◌<◌, length}
+use Rattle.std.proofs.Common.{◌∙◌, sym, arith, length-take, length-drop, eq-eqb, ne_eqb}
 use Rattle.wire.specs.Bytes.{part}
-use Rattle.model.specs.Codes.{within}
 use Rattle.model.proofs.CodeLaws.{in_range, below_range, above_range}
 use Rattle.extension.specs.declared.Carrier.{Carrier}
 use Rattle.extension.specs.declared.Carrier.TheVariants.{Nothing, At, Wrong}
-use Rattle.extension.specs.Extension.{Carried, nothing, body, wrong, carrying, one_more, list_from}
+use Rattle.extension.specs.Extension.{Carried, body, wrong, carrying, one_more}
 use Rattle.extension.specs.Places.{carried_at}
 
 -- ---- a 40h

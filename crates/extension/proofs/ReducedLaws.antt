@@ -1,9 +1,7 @@
 -- Laws of a reduced command: its length, its CDB, and what it is by the place where the 78 bytes begin.
-use Rattle.std.specs.Prelude.{◌≡◌, refl, Bool, true, false, List, [], ◌++◌, ℕ, ◌+◌, ◌-◌, ◌≤◌, ◌<◌, eqb, ltb, length, get_or, take, drop}
-use Rattle.std.proofs.Common.{◌∙◌, sym, ap, ap₂, subst, arith, length-append, length-take, length-drop, take_at, length-take-le, get_or-take, ltb-true, ltb-false, lt-ltb, le-ltb, eqb-true, eq-eqb, ne_eqb}
+use Rattle.std.specs.Prelude.{◌≡◌, refl, Bool, true, false, List, [], ◌++◌, ℕ, ◌+◌, ◌-◌, ◌≤◌, ◌<◌, ltb, length, get_or, take, drop}
+use Rattle.std.proofs.Common.{◌∙◌, sym, ap, ap₂, arith, length-append, length-take, length-drop, take_at, length-take-le, get_or-take, ltb-true, ltb-false, lt-ltb, le-ltb}
 use Rattle.std.proofs.Math.Nat.{sub-zero}
-use Rattle.std.proofs.Math.ListN.{get_or-append}
-use Rattle.choice.specs.Choice.{pick}
 use Rattle.wire.specs.Bytes.{part, patch}
 use Rattle.wire.proofs.PatchLaws.{lent_part, patch_join}
 use Rattle.model.specs.Codes.{cdb_len}

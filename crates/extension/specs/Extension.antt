@@ -1,6 +1,6 @@
 -- The extension list of the port card (document 02, K1): behind the CDB stand one to four descriptors, each a type byte, a length byte and
 -- that many body bytes. The list is read as one descriptor followed by a shorter list, and must end at the last byte.
-use Rattle.std.specs.Prelude.{Bool, true, false, List, [], ◌∷◌, ◌++◌, ℕ, zero, suc, ◌+◌, eqb, ltb, length, get_or, take, drop}
+use Rattle.std.specs.Prelude.{Bool, true, false, List, [], ◌++◌, ℕ, zero, suc, ◌+◌, eqb, ltb, length, get_or, take, drop}
 use Rattle.choice.specs.Choice.{pick}
 use Rattle.wire.specs.Bytes.{part}
 use Rattle.model.specs.Codes.{within, cdb_len}

@@ -1,6 +1,6 @@
 -- A list by its descriptors: how they are laid out, and document 02's causes of reason 20, each a test of the descriptors alone. Statements
 -- cite it (LaidLaws); no contract does.
-use Rattle.std.specs.Prelude.{Bool, true, false, not, List, [], ◌∷◌, ◌++◌, ℕ, suc, eqb, ltb, length}
+use Rattle.std.specs.Prelude.{Bool, false, not, List, [], ◌∷◌, ◌++◌, ℕ, suc, eqb, ltb, length}
 use Rattle.choice.specs.Choice.{pick, both, either}
 use Rattle.model.specs.Codes.{within}
 use Rattle.extension.specs.Extension.{is_empty}

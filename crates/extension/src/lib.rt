@@ -1,6 +1,7 @@
 // The extension list of the port card (document 02, K1): a command that comes as its CDB and one to four descriptors is reduced to document
 // 01's wrapped form.
 #![tactic(auto)]
+
 ghost use Rattle.std.specs.Prelude.{◌≡◌, List, ◌++◌, ℕ, suc, ◌+◌, ◌≤◌, ◌<◌, length, take, drop};
 ghost use Rattle.wire.specs.Bytes.{part, patch};
 ghost use Rattle.extension.specs.Extension.{carrying, one_more, list_from, reduced};
