@@ -8,7 +8,7 @@ use Rattle.extension.proofs.descriptor_at.Goals as goal
 
 pub returns-then-c-at : goal.returns-then-c-at
 returns-then-c-at c =
-    (c.requires, omega arith, cut_there _ _ _ c.at-n.ensures _ _ c.requires refl c.if-c-at.true)
+    (c.requires, omega arith, cut_there _ _ _ c.at-n.ensures _ _ c.requires refl (omega arith))
 
 pub returns : goal.returns
 returns c =
