@@ -1,6 +1,5 @@
 -- Setter by setter as the definition has it, and the check.
 use Rattle.pages.proofs.StepLaws.{changed_steps}
-use borrow.Author.Rules.{rules}
 use Rattle.pages.proofs.effects.change.Goals as goal
 
 pub returns : goal.returns

@@ -1,6 +1,5 @@
 -- Setter by setter as the definition has it, and the check.
 use Rattle.pages.proofs.StepLaws.{exchanged_steps}
-use borrow.Author.Rules.{rules}
 use Rattle.pages.proofs.effects.exchange.Goals as goal
 
 pub returns : goal.returns

@@ -1,6 +1,5 @@
 -- By the test that tells which.
 use borrow.Author.Tests.{eq-eqb, ne_eqb}
-use borrow.Author.Rules.{rules}
 use Rattle.pages.proofs.effects.flip.Goals as goal
 
 pub returns-then-x-eq1 : goal.returns-then-x-eq1

@@ -3,7 +3,6 @@ use mathlib.Core.Path.{refl}
 use Rattle.units.proofs.UnitLaws.{identifier_length}
 use Rattle.pages.proofs.StepLaws.{flipped_steps}
 use native.Mathlib.Omega.{arith}
-use borrow.Author.Rules.{rules}
 use Rattle.pages.proofs.effects.flipped_identifier.Goals as goal
 
 pub put-requires : goal.put-requires

@@ -1,6 +1,5 @@
 -- Started, fed twice and finished.
 use mathlib.Core.List.{[]}
-use borrow.Author.Rules.{rules}
 use Rattle.pages.proofs.effects.hmac_of_two.Goals as goal
 
 pub returns : goal.returns

@@ -1,5 +1,4 @@
 -- The generation master key, read, and the HMAC under it.
-use borrow.Author.Rules.{rules}
 use Rattle.pages.proofs.effects.made_key.Goals as goal
 
 pub returns : goal.returns

@@ -1,7 +1,6 @@
 -- Two HMACs under one key; the bit that differs is the identifier's, and so the last byte's of S.
 use Rattle.pages.specs.Effects.{next_gen}
 use Rattle.pages.proofs.StepLaws.{next_auth_lem}
-use borrow.Author.Rules.{rules}
 use Rattle.pages.proofs.effects.next_pair.Goals as goal
 
 pub returns : goal.returns

@@ -2,7 +2,6 @@
 use mathlib.Core.Path.{refl}
 use Rattle.pages.specs.Effects.{attributes_set}
 use Rattle.pages.proofs.FrontLaws.{attributes_obeyed}
-use borrow.Author.Rules.{rules}
 use Rattle.pages.proofs.effects.set_attributes.Goals as goal
 
 pub returns : goal.returns

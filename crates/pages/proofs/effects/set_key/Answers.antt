@@ -1,6 +1,5 @@
 -- The mask with its bit, the key, and the check.
 use Rattle.pages.proofs.StepLaws.{key_steps}
-use borrow.Author.Rules.{rules}
 use Rattle.pages.proofs.effects.set_key.Goals as goal
 
 pub returns : goal.returns

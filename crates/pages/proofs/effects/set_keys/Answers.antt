@@ -1,8 +1,6 @@
 -- Each arm does what its page says, with what stands in the list; a page of no arm leaves the key set as it was.
-use borrow.Author.Tests.{ne_eqb}
 use Rattle.pages.specs.Effects.{new_keys}
 use Rattle.pages.proofs.FrontLaws.{key_version_lem, key_run, exchange_run, key_obeyed, exchange_obeyed}
-use borrow.Author.Rules.{rules}
 use Rattle.std.proofs.lemmas.Grind.{common_steps}
 use native.Mathlib.Omega.{arith}
 use Rattle.pages.proofs.effects.set_keys.Goals as goal

@@ -1,6 +1,5 @@
 -- What is read at the page's widths.
 use Rattle.pages.proofs.FrontLaws.{widths_small, front_read}
-use borrow.Author.Rules.{rules}
 use Rattle.pages.proofs.lists.front_of.Goals as goal
 
 pub read_front-requires : goal.read_front-requires

@@ -1,6 +1,5 @@
 -- Each arm's page picks its widths; a page of no arm has none.
 use mathlib.Core.Path.{refl}
-use borrow.Author.Tests.{ne_eqb}
 use Rattle.pages.specs.Front.{first_width, second_width, third_width}
 use Rattle.std.proofs.lemmas.Grind.{common_steps}
 use native.Mathlib.Omega.{arith}

@@ -1,8 +1,6 @@
 -- Each arm's page has its own test; of the others only Change is right.
-use borrow.Author.Tests.{ne_eqb}
 use Rattle.pages.specs.Out.{wrong_fields}
 use Rattle.pages.proofs.FrontLaws.{attributes_judged, key_judged, exchange_judged}
-use borrow.Author.Rules.{rules}
 use Rattle.std.proofs.lemmas.Grind.{common_steps}
 use native.Mathlib.Omega.{arith}
 use Rattle.pages.proofs.lists.wrong_fields.Goals as goal

@@ -1,6 +1,5 @@
 -- Call by call as the definition has it.
 use Rattle.pages.specs.Out.{list_page, list_length, wrong_list}
-use borrow.Author.Rules.{rules}
 use Rattle.pages.proofs.lists.wrong_list.Goals as goal
 
 pub returns : goal.returns

@@ -1,8 +1,6 @@
 -- The number of the bytes so far.
 use mathlib.Core.Path.{◌≡◌}
-use Prim.Native.Nat.{◌≤◌, ◌<◌, ◌-◌, ◌^◌}
 use native.Mathlib.Omega.{arith}
-use Rattle.wire.specs.Bytes.{number}
 use Rattle.pages.proofs.OutLaws.{number_empty, number_more, below_more, below_four}
 use borrow.Author.Rules.{rules}
 use Rattle.pages.proofs.reader.number_at.Goals as goal

@@ -5,7 +5,6 @@ use lib.ListN.{get_or-eq_default}
 use Rattle.wire.specs.Bytes.{bytes_of}
 use Rattle.pages.specs.In.{attributes_page}
 use Rattle.pages.proofs.InLaws.{attributes_length, attributes_at}
-use borrow.Author.Rules.{rules}
 use Rattle.pages.proofs.replies.attributes_at.Goals as goal
 
 pub returns-then-i-lt12 : goal.returns-then-i-lt12

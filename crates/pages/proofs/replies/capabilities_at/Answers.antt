@@ -4,7 +4,6 @@ use native.Mathlib.Omega.{arith}
 use lib.ListN.{get_or-eq_default}
 use Rattle.pages.specs.In.{capabilities}
 use Rattle.pages.proofs.InLaws.{capabilities_length}
-use borrow.Author.Rules.{rules}
 use Rattle.pages.proofs.replies.capabilities_at.Goals as goal
 
 pub returns-then-i-lt20 : goal.returns-then-i-lt20

@@ -1,7 +1,5 @@
 -- Each arm's page picks its list; a page of no arm has no byte.
-use borrow.Author.Tests.{ne_eqb}
 use Rattle.pages.specs.In.{in_page}
-use borrow.Author.Rules.{rules}
 use Rattle.std.proofs.lemmas.Grind.{common_steps}
 use native.Mathlib.Omega.{arith}
 use Rattle.pages.proofs.replies.page_at.Goals as goal

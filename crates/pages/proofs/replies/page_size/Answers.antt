@@ -1,5 +1,4 @@
 -- Each arm's page picks its size; a page of no arm fails every test.
-use borrow.Author.Tests.{ne_eqb}
 use Rattle.pages.specs.In.{size_of}
 use Rattle.std.proofs.lemmas.Grind.{common_steps}
 use native.Mathlib.Omega.{arith}

@@ -1,6 +1,5 @@
 -- The count is that of the reply, and so many bytes of the page are the reply.
 use native.Mathlib.Nat.{min-le_right}
-use borrow.Author.Rules.{rules}
 use Rattle.pages.proofs.InLaws.{count_reply, reply_length}
 use Rattle.pages.proofs.replies.reply.Goals as goal
 

@@ -5,7 +5,6 @@ use lib.ListN.{get_or-eq_default}
 use Rattle.wire.specs.Bytes.{bytes_of}
 use Rattle.pages.specs.In.{supported_out}
 use Rattle.pages.proofs.InLaws.{supported_out_length}
-use borrow.Author.Rules.{rules}
 use Rattle.pages.proofs.replies.supported_out_at.Goals as goal
 
 pub returns-then-i-lt12 : goal.returns-then-i-lt12

@@ -1,9 +1,7 @@
 -- A copy of as many bytes as the count says.
 use mathlib.Core.Path.{◌≡◌, ◌∙◌, refl}
-use mathlib.Core.List.{◌++◌}
-use Prim.Native.Nat.{◌≤◌, ◌-◌}
 use native.Mathlib.Omega.{arith}
-use lib.ListN.{length, take, drop, length-set}
+use lib.ListN.{length-set}
 use Rattle.pages.proofs.CopyLaws.{copy_more, copy_patch}
 use Rattle.pages.specs.In.{in_page}
 use Rattle.pages.proofs.InLaws.{page_size, size_small}

@@ -1,13 +1,9 @@
 -- A copy of as many bytes as the count says.
-use mathlib.Core.Path.{◌≡◌, ◌∙◌, refl}
+use mathlib.Core.Path.{◌≡◌}
 use mathlib.Core.List.{◌++◌}
 use Prim.Native.Nat.{◌≤◌, ◌-◌}
-use native.Mathlib.Omega.{arith}
-use lib.ListN.{length, take, drop, length-set}
-use Rattle.pages.proofs.CopyLaws.{copy_more, copy_patch}
+use lib.ListN.{length, take, drop}
 use Rattle.pages.specs.In.{in_page}
-use Rattle.pages.proofs.InLaws.{page_size, size_small}
-use borrow.Author.Rules.{rules}
 use Rattle.pages.proofs.replies.write_page.Given as goal
 
 abbrev pub invariant-loop-i : goal.invariant-loop-i
