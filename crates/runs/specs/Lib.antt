@@ -7,5 +7,6 @@ pub mod History
 pub mod Fresh
 -- whole commands, and what open and close leave and shut out
 pub mod Edges
+
 -- sequences of calls
 -- keys over a sequence
