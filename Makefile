@@ -26,7 +26,7 @@ test:
 	@tools/test
 
 check:
-	@rt check $(CRATE)
+	@if [ -n "$(CRATE)" ]; then cd "crates/$(CRATE)" && rt check; else rt all check; fi
 
 demo:
 	@tools/demo "$(IN)"

@@ -26,25 +26,27 @@ other_kit() {
     echo "    not of the code, and what passes has passed with this kit alone."
 }
 
-# told NAME SAY: of what rt check says, how it goes: a line for each crate that is proved anew, and a word ahead where that takes a while.
+# told NAME SAY: of what rt run says, how it goes: a line for each crate that is proved anew, and a word ahead where that takes a while.
 told() {
-    local line made='' kept='' ended=0
+    local line crate='' made='' ended=0
     while :; do
         ended=0
         IFS= read -r -t 2 line || ended=$?
         if [ "$ended" -gt 128 ]; then
-            [ -n "$made" ] || echo "proving what has changed, up to $1 (up to replay all of it takes some seven minutes on two cores)"
+            [ -n "$made" ] || echo "proving what has changed, up to $1 (the first time all that it uses, which takes some minutes)"
             made=1
             continue
         fi
         [ "$ended" -eq 0 ] || break
         case $line in
-        'rt: '*' proved (unchanged'*) kept=1 ;;
-        'rt: '*' proved ('*' s)') made=1 && echo "${line#rt: }" ;;
-        'rt: '*'NOT PROVED'* | 'rt: '*'FAILED'*) echo "${line#rt: }" ;;
+        'checked '*::*)
+            line=${line#checked }
+            [ "$crate" = "${line%%::*}" ] || { crate=${line%%::*} && made=1 && echo "proving $crate"; }
+            ;;
+        'fn '*': not proved'* | 'fn '*': no proof'*) echo "$line" ;;
         esac
     done
-    [ -n "$made" ] || [ -z "$kept" ] || [ -z "$2" ] || echo "$1 is proved already: nothing has changed since"
+    [ -n "$made" ] || [ -z "$2" ] || echo "$1 is proved already: nothing has changed since"
 }
 
 # alone COMMAND..: one at a time in this tree, since two that prove at once take each other's marks of what is proved away.
@@ -54,22 +56,24 @@ alone() {
 }
 
 # prove NAME [say]: has target/bin/NAME made from the sources as they are: what has changed since it was last proved is proved again, and
-# told on standard error. Where nothing has changed that takes a second, and is told only to who wants it said.
+# told on standard error. Where nothing has changed that takes a second, and is told only to who wants it said. `rt run` proves and builds
+# the program and runs it, here on no input.
 prove() {
-    local name=$1
+    local name=$1 built=$root/crates/$1/out/$1
     if ! command -v rt >/dev/null; then
         [ -x "$root/target/bin/$name" ] || stop "target/bin/$name is not built, and there is no rt here: the Rattle kit is not installed"
         echo "$me: there is no rt here: target/bin/$name runs as it was built, whatever has changed since" >&2
         return
     fi
-    mkdir -p "$root/target"
-    # A stamp without its program proves nothing.
-    [ -x "$root/target/bin/$name" ] || rm -f "$root/target/stamp/$name"
+    mkdir -p "$root/target/bin"
     other_kit >&2
-    (cd "$root" && alone rt check "$name") 2>&1 </dev/null | tee "$root/target/prove.log" | told "$name" "${2:-}" >&2
-    [ "${PIPESTATUS[0]}" -eq 0 ] && return
-    grep 'error' "$root/target/prove.log" | head -n 20 >&2
-    stop "$name is not proved: target/prove.log has all that was said"
+    (cd "$root/crates/$name" && alone rt run 2>&1 >/dev/null </dev/null) | tee "$root/target/prove.log" | told "$name" "${2:-}" >&2
+    if [ "${PIPESTATUS[0]}" -ne 0 ]; then
+        grep -E 'error|: not proved|: no proof' "$root/target/prove.log" | head -n 20 >&2
+        stop "$name is not proved: target/prove.log has all that was said"
+    fi
+    cmp -s "$built" "$root/target/bin/$name" && return
+    cp "$built" "$root/target/bin/.$name" && mv "$root/target/bin/.$name" "$root/target/bin/$name" || stop "target/bin/$name can't be written"
 }
 
 # one ARGUMENT..: a script takes one file at most.

@@ -1,3 +1,3 @@
--- What the crate's contracts cite: Hmac and Mac hold the meanings, HmacLaws laws of them over any hash.
+-- What the crate's contracts cite: Hmac and Mac hold the meanings, and proofs/ laws of them over any hash.
 pub mod Hmac
 pub mod Mac

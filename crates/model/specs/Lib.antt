@@ -1,4 +1,4 @@
--- What the crate's contracts cite, by subject, and beside each the laws of it.
+-- What the crate's contracts cite, by subject. proofs/ holds the laws of each.
 pub mod Among
 -- answers
 pub mod Paper

@@ -1,16 +1,15 @@
 -- A packed answer taken apart, as the macros of include/nectarnook.h take it apart, gives document 01's number and values back: so
 -- packing tells any two answers apart whose values fit their places.
-use Rattle.std.specs.Prelude.{◌≡◌, List, [], ◌∷◌, ℕ, ◌+◌, ◌-◌, ◌/◌, ◌%◌, ◌^◌, ◌<◌, eqb}
+use Rattle.std.specs.Prelude.{◌≡◌, [], ℕ, ◌+◌, ◌<◌}
 use Rattle.std.proofs.Common.{sym, ap, ◌∙◌, ne_eqb}
 use Rattle.std.proofs.Math.Nat.{add-sub_cancel_left}
 use native.Mathlib.Omega.{arith}
-use Rattle.choice.specs.Choice.{pick}
-use Rattle.model.specs.Paper.{No, A, H, Paper, paper_of}
+use Rattle.model.specs.Paper.{H, Paper, paper_of}
 use Rattle.model.proofs.PaperLaws.{paper_apart}
 use Rattle.model.specs.declared.Answer.{Answer}
 use Rattle.model.proofs.AnswerLaws.{answer_cases}
 use Rattle.nectarnook.specs.Packed.{word, packed_by, packed_paper, packed}
-use Rattle.nectarnook.specs.Unpacked.{answer_byte, status_byte, key_byte, code_byte, qualifier_byte, reason_byte, count_bits, paper, read_as, paper_in, limit, AllBelow, FitsItsBytes}
+use Rattle.nectarnook.specs.Unpacked.{answer_byte, status_byte, key_byte, code_byte, qualifier_byte, reason_byte, count_bits, paper, read_as, paper_in, FitsItsBytes}
 
 module _ (a s k c q e n : ℕ) (ha : a < 256) (hs : s < 256) (hk : k < 256) (hc : c < 256) (hq : q < 256) (he : e < 256) (hn : n < 1024) where
   answer_back : answer_byte (word a s k c q e n) ≡ a

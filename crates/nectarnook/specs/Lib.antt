@@ -1,4 +1,3 @@
--- What the C face's contracts cite: Packed holds the meanings, PackedLaws how a call's outcome is packed; Unpacked says that packing loses
--- nothing, and CallLaws that this is so of every answer that a call gives.
+-- What the C face's contracts cite: Packed holds the meanings, and Unpacked how a packed answer is taken apart.
 pub mod Packed
 pub mod Unpacked

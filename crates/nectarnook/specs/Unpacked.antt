@@ -1,6 +1,6 @@
 -- A packed answer taken apart, as the macros of include/nectarnook.h take it apart: document 01's number and values.
 use Prim.{Unit}
-use Rattle.std.specs.Prelude.{List, [], ◌∷◌, ℕ, ◌+◌, ◌-◌, ◌/◌, ◌%◌, ◌^◌, ◌<◌, eqb}
+use Rattle.std.specs.Prelude.{List, [], ◌∷◌, ℕ, ◌-◌, ◌/◌, ◌%◌, ◌^◌, ◌<◌, eqb}
 use Rattle.choice.specs.Choice.{pick}
 use Rattle.model.specs.Paper.{No, A, H, Paper, paper_of}
 use Rattle.model.specs.declared.Answer.{Answer}

@@ -1,5 +1,6 @@
 // The C face: functions that a program in C or Rust links. No logic stands here. The five calls are in `face`.
 #![tactic(auto)]
+
 mod face;
 
 ghost use Rattle.std.specs.Prelude.{◌≡◌};

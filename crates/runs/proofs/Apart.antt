@@ -2,7 +2,7 @@
 -- records, whoever keeps whose keys.
 use Rattle.std.specs.Prelude.{◌≡◌, ℕ, ◌*◌, ◌<◌, eqb, length}
 use Rattle.std.proofs.Math.Path.{refl, sym, ap}
-use Rattle.std.proofs.Common.{ap₂, ◌∙◌, subst, arith}
+use Rattle.std.proofs.Common.{◌∙◌, subst, arith}
 use Rattle.std.proofs.Math.Bool.{Bool, true, false}
 use mathlib.Core.List.{List, [], ◌∷◌, ◌++◌}
 use Prim.{Unit}
@@ -10,12 +10,11 @@ use borrow.Author.Tests.{eqb-true, eqb-false, eq-eqb}
 use Rattle.choice.specs.Choice.{both, pick}
 use Rattle.choice.specs.ChoiceLaws.{both_true}
 use Rattle.wire.specs.Bytes.{patch}
-use Rattle.wire.proofs.PatchLaws.{record_here, record_other, record_length, record_swap, patch_over}
+use Rattle.wire.proofs.PatchLaws.{record_here, record_other, record_swap, patch_over}
 use Rattle.model.specs.Protocol.{protocol_out, set_attributes}
 use Rattle.model.specs.Refusal.{refusal}
 use Rattle.model.specs.Rows.{is_master}
-use Rattle.model.specs.Answers.{is_a, is_good}
-use Rattle.model.specs.declared.Answer.{Answer}
+use Rattle.model.specs.Answers.{is_good}
 use Rattle.model.specs.declared.Answer.TheVariants.{Good, Run}
 use Rattle.units.specs.Unit.{mask, step, auth_key_of, next_auth_key, is_valid, working_key, unit_at, keeper_of, key_set_of, unit_state}
 use Rattle.units.proofs.UnitLaws.{unit_length, keeper_small}
@@ -25,7 +24,7 @@ use Rattle.judge.specs.Keys.{key_found, key_used}
 use Rattle.judge.specs.Seen.{Seen, seen}
 use Rattle.judge.specs.Judgement.{found_tests, value_tests, credential_tests, guard_tests, page_tests, earlier_tests, later_tests, open_tests}
 use Rattle.pages.specs.In.{attributes_page, in_page, reply_of}
-use Rattle.pages.specs.Out.{new_method, new_tag, wrong_list}
+use Rattle.pages.specs.Out.{new_method, new_tag}
 use Rattle.pages.specs.Effects.{attributes_set, new_keys}
 use Rattle.pages.proofs.EffectLaws.{attributes_length, attributes_master, attributes_next, attributes_working, new_length}
 use Rattle.pages.proofs.CommuteLaws.{new_commutes}

@@ -5,7 +5,6 @@ use Rattle.std.proofs.Common.{sym, ap, ◌∙◌, arith}
 use Rattle.std.proofs.Math.Option.{Option, none, some}
 use Rattle.choice.specs.Choice.{pick}
 use Rattle.model.specs.Rows.{is_master, is_open_row}
-use Rattle.model.specs.Refusal.{refusal}
 use Rattle.model.specs.Answers.{is_good, is_final}
 use Rattle.model.specs.declared.Need.{Need}
 use Rattle.model.specs.declared.Need.TheVariants.{Unknown, Open, Bits, Master}
@@ -19,7 +18,7 @@ use Rattle.judge.specs.Judgement.{rules_for, open_reason}
 use Rattle.judge.proofs.JudgementLaws.{capkey_rules, master_rules}
 use Rattle.judge.proofs.CheckedLaws.{guarded_key, guarded_checked}
 use Rattle.calls.specs.Outcome.{Tables}
-use Rattle.calls.specs.Whole.{Asked, Whole, whole_reason, whole}
+use Rattle.calls.specs.Whole.{Asked, whole}
 use Rattle.calls.proofs.WholeLaws.{close_none}
 use Rattle.runs.proofs.FinalLaws.{whole_good}
 use Rattle.runs.specs.Run.{Call, opens, closes, aborts, resets, Event, Meets, Ran, SoundTables, is_command}

@@ -22,7 +22,7 @@ use Rattle.units.proofs.UnitLaws.{used_sound, used_has, keeps_has}
 use Rattle.judge.specs.Command.{code_of, page_of, need_for, is_change, descriptor_of}
 use Rattle.judge.specs.Descriptor.{key_version}
 use Rattle.judge.specs.Keys.{key_found, key_used}
-use Rattle.judge.specs.Seen.{Seen, seen}
+use Rattle.judge.specs.Seen.{seen}
 use Rattle.judge.specs.Judgement.{rules_for, protocol_tests, page_tests, open_reason}
 use Rattle.judge.proofs.TestLaws.{NoneApply}
 use Rattle.judge.proofs.JudgementLaws.{none_refuse, open_passed}

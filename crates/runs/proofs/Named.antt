@@ -1,6 +1,6 @@
 -- Facts by name about open and close, each of which shuts out a program that document 01 will not have ("What to prove, and programs that
 -- don't pass").
-use Rattle.std.specs.Prelude.{◌≡◌, refl, true, false, not, List, [], ◌∷◌, ℕ, zero, suc, ◌*◌, ◌≤◌, ◌<◌, min, eqb, length, take}
+use Rattle.std.specs.Prelude.{◌≡◌, refl, true, false, not, List, [], ◌∷◌, ℕ, zero, suc, ◌*◌, ◌≤◌, min, eqb, length, take}
 use Rattle.std.proofs.Common.{sym, ap, ◌∙◌, subst, arith, take_at, ne_eqb, le-ltb}
 use Rattle.choice.specs.Choice.{either}
 use Rattle.hmac.specs.Hmac.{hmac, by_sha1}

@@ -1,7 +1,7 @@
 -- Several units under one key set (02, K4), by name: in a run who keeps keys never moves; a key that is set at one unit is there for all
 -- that share the set, and a Change at any of them ends the working keys of all.
 use Rattle.std.specs.Prelude.{◌≡◌, refl, Bool, true, false, List, [], ◌∷◌, ◌++◌, ℕ, ◌<◌, length}
-use Rattle.std.proofs.Common.{sym, ap, ap₂, ◌∙◌, arith, eq-eqb, le-leb}
+use Rattle.std.proofs.Common.{sym, ap, ◌∙◌, arith, eq-eqb, le-leb}
 use Rattle.std.proofs.Math.Option.{Option, none, some}
 use Rattle.choice.specs.Choice.{either, pick}
 use Rattle.model.specs.Protocol.{set_key, change_master}
@@ -15,11 +15,11 @@ use Rattle.slots.specs.Slot.{slot_at, slot_unit, slot_command}
 use Rattle.judge.specs.Command.{page_of, need_for, descriptor_of}
 use Rattle.judge.specs.Descriptor.{key_version}
 use Rattle.judge.proofs.JudgementLaws.{capkey_rules}
-use Rattle.calls.specs.Outcome.{Tables, Lent, gives, rightly_lent}
+use Rattle.calls.specs.Outcome.{Tables, Lent, gives}
 use Rattle.calls.proofs.OutcomeLaws.{lengths_are}
 use Rattle.calls.specs.Whole.{Asked, whole}
 use Rattle.calls.specs.Close.{held_by, close_out}
-use Rattle.runs.specs.Run.{Call, closes, Event, Meets, Ran, SoundTables}
+use Rattle.runs.specs.Run.{closes, Event, Meets, Ran, SoundTables}
 use Rattle.runs.specs.Ledger.{ledger_of, starts, Done, dones, Singly}
 use Rattle.runs.proofs.WholeLaws.{whole_length, whole_final, whole_field, whole_keeper}
 use Rattle.runs.proofs.FinalLaws.{close_final}

@@ -1,3 +1,3 @@
--- What the crate's contracts cite: Unit and Fields hold the meanings, the others laws of them.
+-- What the crate's contracts cite: Unit and Fields hold the meanings, and proofs/ laws of them.
 pub mod Unit
 pub mod Fields

@@ -1,2 +1,2 @@
--- What the crate's contracts cite: Bytes holds the meanings, the others laws of them.
+-- What the crate's contracts cite: Bytes holds the meanings, and proofs/ laws of them.
 pub mod Bytes

@@ -1,0 +1,6 @@
+-- The call's outcome, packed.
+use Rattle.nectarnook.proofs.PackedLaws.{one_packed}
+use Rattle.nectarnook.proofs.face.nn_abort.Goals as goal
+
+pub returns : goal.returns
+returns c = one_packed _ c.abort.result _ _ c.pack.ensures c.abort.ensures
