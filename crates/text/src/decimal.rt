@@ -3,6 +3,7 @@ ghost use Rattle.std.specs.Prelude.{◌≡◌, false, ◌≤◌, leb, length};
 ghost use Rattle.choice.specs.Choice.{pick};
 ghost use Rattle.text.specs.Decimal.{decimal_of, PutDecimal};
 
+use super::digits::decimal;
 use super::hex::value;
 use super::put;
 
@@ -52,6 +53,6 @@ pub fn put_decimal(out: &mut [u8], at: usize, x: u64) -> usize
     ensures { PutDecimal x out.old at result out.new }
 {
     let mut digits = [0u8; 20];
-    let k = io::decimal(x, &mut digits);
+    let k = decimal(x, &mut digits);
     put(out, at, &digits[..k])
 }

@@ -1,7 +1,7 @@
 -- Without room the buffer is as it was; with room what is written is the patch.
 use mathlib.Core.Path.{◌∙◌, sym}
 use native.Mathlib.Omega.{arith}
-use Rattle.text.specs.PlaceLaws.{placed_behind, placed_in, unplaced_behind, unplaced_in}
+use Rattle.text.proofs.PlaceLaws.{placed_behind, placed_in, unplaced_behind, unplaced_in}
 use borrow.Author.Rules.{rules}
 use Rattle.text.proofs.put.Statement.{statement}
 use Rattle.text.proofs.put.Tie as tie

@@ -3,7 +3,7 @@ use mathlib.Core.Path.{◌≡◌, ◌∙◌, sym, refl}
 use Prim.Native.Nat.{◌≤◌, ◌-◌}
 use native.Mathlib.Omega.{arith}
 use Rattle.show.specs.Parts.{wrong_key}
-use Rattle.show.specs.PartLaws.{wrong_found, wrong_further, wrong_none}
+use Rattle.show.proofs.PartLaws.{wrong_found, wrong_further, wrong_none}
 use borrow.Author.Rules.{rules}
 use Rattle.show.proofs.parts.wrong_key.Statement.{statement}
 use Rattle.show.proofs.parts.wrong_key.Tie as tie

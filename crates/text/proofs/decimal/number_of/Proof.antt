@@ -4,13 +4,13 @@ use Prim.Native.Nat.{◌+◌, ◌*◌, ◌≤◌, ◌-◌}
 use native.Mathlib.Omega.{arith}
 use lib.ListN.{length}
 use Rattle.text.specs.Decimal.{decimal_of}
-use Rattle.text.specs.HexLaws.{value_most}
-use Rattle.text.specs.DecimalLaws.{decimal_grows, decimal_next}
+use Rattle.text.proofs.HexLaws.{value_most}
+use Rattle.text.proofs.DecimalLaws.{decimal_grows, decimal_next}
 use mathlib.Core.Bool.{Bool}
 use Prim.Native.Nat.{ℕ}
 use borrow.Author.Tests.{le-leb}
 use Rattle.choice.specs.Choice.{pick}
-use Rattle.text.specs.DecimalLaws.{decimal_none, exceeds}
+use Rattle.text.proofs.DecimalLaws.{decimal_none, exceeds}
 use borrow.Author.Rules.{rules}
 use Rattle.text.proofs.decimal.number_of.Statement.{statement}
 use Rattle.text.proofs.decimal.number_of.Tie as tie

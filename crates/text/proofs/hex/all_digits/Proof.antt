@@ -4,8 +4,8 @@ use Prim.Native.Nat.{◌≤◌, ◌-◌}
 use native.Mathlib.Omega.{arith}
 use lib.ListN.{length}
 use Rattle.text.specs.Hex.{all_digits}
-use Rattle.text.specs.HexLaws.{all_next}
-use Rattle.text.specs.HexLaws.{all_none}
+use Rattle.text.proofs.HexLaws.{all_next}
+use Rattle.text.proofs.HexLaws.{all_none}
 use mathlib.Core.Path.{ap₂}
 use mathlib.Core.Bool.{Bool}
 use Prim.Native.Nat.{ℕ}

@@ -1,6 +1,6 @@
 -- Both digits say a value below 16.
 use native.Mathlib.Omega.{arith}
-use Rattle.text.specs.HexLaws.{digit_below}
+use Rattle.text.proofs.HexLaws.{digit_below}
 use Prim.Native.Nat.{◌*◌}
 use lib.ListN.{length}
 use Prim.Native.Nat.{◌+◌}

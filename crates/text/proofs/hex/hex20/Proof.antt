@@ -7,7 +7,7 @@ use native.Mathlib.Omega.{arith}
 use lib.ListN.{length}
 use Rattle.wire.proofs.PatchLaws.{patch_all}
 use Rattle.text.specs.Hex.{digits_of}
-use Rattle.text.specs.HexLaws.{digits_length}
+use Rattle.text.proofs.HexLaws.{digits_length}
 use mathlib.Core.Path.{◌≡◌}
 use borrow.Author.Rules.{rules}
 use Rattle.text.proofs.hex.hex20.Statement.{statement}

@@ -5,10 +5,10 @@ use native.Mathlib.Omega.{arith}
 use lib.ListN.{length}
 use Rattle.wire.specs.Bytes.{patch}
 use Rattle.text.specs.Hex.{digits_of}
-use Rattle.text.specs.HexLaws.{digits_length, digits_next}
+use Rattle.text.proofs.HexLaws.{digits_length, digits_next}
 use mathlib.Core.Path.{refl}
 use Prim.Native.Nat.{ℕ}
-use Rattle.text.specs.HexLaws.{digits_none, digits_more}
+use Rattle.text.proofs.HexLaws.{digits_none, digits_more}
 use mathlib.Core.List.{List}
 use lib.ListN.{get_or}
 use Rattle.text.specs.Place.{with_text}

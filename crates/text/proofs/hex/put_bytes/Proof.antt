@@ -5,10 +5,10 @@ use native.Mathlib.Omega.{arith}
 use lib.ListN.{length}
 use Rattle.wire.specs.Bytes.{patch}
 use Rattle.text.specs.Hex.{bytes_in}
-use Rattle.text.specs.HexLaws.{bytes_length, bytes_next}
+use Rattle.text.proofs.HexLaws.{bytes_length, bytes_next}
 use mathlib.Core.Path.{refl}
 use Prim.Native.Nat.{ℕ}
-use Rattle.text.specs.HexLaws.{bytes_none, bytes_more}
+use Rattle.text.proofs.HexLaws.{bytes_none, bytes_more}
 use mathlib.Core.Path.{ap₂}
 use mathlib.Core.List.{List, [], ◌∷◌}
 use Rattle.wire.proofs.PatchLaws.{length_patch, patch_none}

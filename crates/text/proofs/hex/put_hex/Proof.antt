@@ -1,8 +1,8 @@
 -- No bytes are a dash; else without room the buffer is as it was, with room the digits are the patch.
 use mathlib.Core.Path.{◌∙◌, sym}
 use native.Mathlib.Omega.{arith}
-use Rattle.text.specs.PlaceLaws.{placed_behind, placed_in, unplaced_behind, unplaced_in}
-use Rattle.text.specs.HexLaws.{digits_length, text_none, text_some}
+use Rattle.text.proofs.PlaceLaws.{placed_behind, placed_in, unplaced_behind, unplaced_in}
+use Rattle.text.proofs.HexLaws.{digits_length, text_none, text_some}
 use mathlib.Core.Path.{ap}
 use lib.ListN.{length}
 use Rattle.wire.specs.Bytes.{patch}

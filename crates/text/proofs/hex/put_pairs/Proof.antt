@@ -1,8 +1,8 @@
 -- Without room the buffer is as it was; with room the bytes are the patch.
 use mathlib.Core.Path.{◌∙◌, sym}
 use native.Mathlib.Omega.{arith}
-use Rattle.text.specs.PlaceLaws.{placed_behind, placed_in, unplaced_behind, unplaced_in}
-use Rattle.text.specs.HexLaws.{bytes_length}
+use Rattle.text.proofs.PlaceLaws.{placed_behind, placed_in, unplaced_behind, unplaced_in}
+use Rattle.text.proofs.HexLaws.{bytes_length}
 use Prim.Native.Nat.{◌/◌}
 use lib.ListN.{length}
 use Rattle.text.specs.Hex.{bytes_in}

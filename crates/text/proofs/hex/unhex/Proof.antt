@@ -1,6 +1,6 @@
 -- A dash, pairs of digits, or no hex.
 use mathlib.Core.Path.{◌∙◌, sym}
-use Rattle.text.specs.HexLaws.{unhex_dash, unhex_pairs, unhex_none, pairs_digits}
+use Rattle.text.proofs.HexLaws.{unhex_dash, unhex_pairs, unhex_none, pairs_digits}
 use borrow.Author.Rules.{rules}
 use Rattle.text.proofs.hex.unhex.Statement.{statement}
 use Rattle.text.proofs.hex.unhex.Tie as tie

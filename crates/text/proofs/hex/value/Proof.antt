@@ -2,7 +2,7 @@
 use mathlib.Core.Path.{◌∙◌, sym}
 use mathlib.Core.Logic.{inl, inr}
 use native.Mathlib.Omega.{arith}
-use Rattle.text.specs.HexLaws.{value_numeral, value_capital, value_letter, value_none}
+use Rattle.text.proofs.HexLaws.{value_numeral, value_capital, value_letter, value_none}
 use borrow.Author.Rules.{rules}
 use Rattle.text.proofs.hex.value.Statement.{statement}
 use Rattle.text.proofs.hex.value.Tie as tie

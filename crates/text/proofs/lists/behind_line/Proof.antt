@@ -1,6 +1,6 @@
 -- Behind the newline, or at the end.
 use native.Mathlib.Omega.{arith}
-use Rattle.text.specs.ListLaws.{rest_behind, rest_ended}
+use Rattle.text.proofs.ListLaws.{rest_behind, rest_ended}
 use borrow.Author.Rules.{rules}
 use Rattle.text.proofs.lists.behind_line.Statement.{statement}
 use Rattle.text.proofs.lists.behind_line.Tie as tie

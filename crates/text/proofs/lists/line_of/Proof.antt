@@ -4,7 +4,7 @@ use Prim.Native.Nat.{◌≤◌, ◌-◌}
 use native.Mathlib.Omega.{arith}
 use lib.ListN.{length, drop}
 use Rattle.text.specs.Lists.{line_of}
-use Rattle.text.specs.ListLaws.{line_next, line_here}
+use Rattle.text.proofs.ListLaws.{line_next, line_here}
 use Prim.Native.Nat.{ℕ, ◌+◌}
 use borrow.Author.Rules.{rules}
 use Rattle.text.proofs.lists.line_of.Statement.{statement}

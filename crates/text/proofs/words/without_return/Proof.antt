@@ -1,7 +1,7 @@
 -- Empty, with a carriage return at its end, or without.
 use mathlib.Core.Path.{◌≡◌}
 use native.Mathlib.Omega.{arith}
-use Rattle.text.specs.WordLaws.{return_empty, return_there, return_none}
+use Rattle.text.proofs.WordLaws.{return_empty, return_there, return_none}
 use borrow.Author.Rules.{rules}
 use Rattle.text.proofs.words.without_return.Statement.{statement}
 use Rattle.text.proofs.words.without_return.Tie as tie

@@ -4,7 +4,7 @@ use mathlib.Core.Bool.{true, false}
 use Prim.Native.Nat.{◌-◌}
 use native.Mathlib.Omega.{arith}
 use lib.ListN.{length}
-use Rattle.text.specs.WordLaws.{Searched, search_starts, search_goes_on, search_finds, search_ends}
+use Rattle.text.proofs.WordLaws.{Searched, search_starts, search_goes_on, search_finds, search_ends}
 use borrow.Author.Rules.{rules}
 use Rattle.text.proofs.words.word_start.Statement.{statement}
 use Rattle.text.proofs.words.word_start.Tie as tie

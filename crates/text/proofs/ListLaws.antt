@@ -2,7 +2,7 @@
 use Rattle.std.specs.Prelude.{◌≡◌, refl, List, ℕ, suc, ◌+◌, ◌-◌, ◌≤◌, ◌<◌, length, take, drop}
 use Rattle.std.proofs.Common.{◌∙◌, sym, ap, arith, length-drop, drop_of_length-le, drop-drop}
 use Rattle.std.proofs.Math.Seq.{take-length}
-use Rattle.bytes.specs.Bytes.{slice, index_of}
+use Rattle.text.specs.Scan.{slice, index_of}
 use Rattle.text.specs.Lists.{line_of}
 
 -- up to its end, a text's part from `at` on is all of its rest

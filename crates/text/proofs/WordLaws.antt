@@ -6,7 +6,7 @@ use borrow.Author.Tests.{eq-eqb, ne_eqb}
 use Rattle.choice.specs.Choice.{both}
 use Rattle.choice.specs.ChoiceLaws.{both_none}
 use Rattle.text.specs.Words.{is_gap, First, unreturned}
-use Rattle.text.specs.HexLaws.{last_or_before}
+use Rattle.text.proofs.HexLaws.{last_or_before}
 
 -- from `at` up to i the search has found nothing
 abbrev pub Searched : Bool → ℕ → List ℕ → ℕ → Type 0

@@ -9,7 +9,7 @@ use Rattle.choice.specs.ChoiceLaws.{both_true, both_none, either_right, pick_cas
 use Rattle.wire.specs.Bytes.{AreBytes, patch}
 use Rattle.wire.proofs.PatchLaws.{length_patch, patch_join}
 use Rattle.text.specs.Place.{bad, place_behind, with_text}
-use Rattle.text.specs.PlaceLaws.{placed_in}
+use Rattle.text.proofs.PlaceLaws.{placed_in}
 use Rattle.text.specs.Hex.{within, value, digit, two_digits, digits_of, hex_text, all_digits, bytes_in, is_dash, are_pairs, is_hex}
 use Rattle.text.specs.Hex.{hex_bytes, unhex_place, unhex_in}
 

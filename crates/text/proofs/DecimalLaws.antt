@@ -4,10 +4,10 @@ use Rattle.std.proofs.Common.{◌∙◌, sym, ap, ap₂, arith, length-append, �
 use Rattle.std.proofs.Math.ListN.{get_or-append}
 use Rattle.std.proofs.lemmas.List.{get_or_at}
 use Rattle.std.proofs.lemmas.Bool.{lt-leb}
-use Rattle.io.specs.Digits.{last_digits, hex_digit_ascii, IsDigitCount}
+use Rattle.text.specs.Digits.{last_digits, hex_digit_ascii, IsDigitCount}
 use Rattle.text.specs.Hex.{value, all_digits}
 use Rattle.text.specs.Decimal.{decimal_of, SpelledOut}
-use Rattle.text.specs.HexLaws.{last_or_before, one_more, all_below, value_numeral}
+use Rattle.text.proofs.HexLaws.{last_or_before, one_more, all_below, value_numeral}
 
 -- each digit more says no less
 pub decimal_grows : (i n : ℕ) (s : List ℕ) → i ≤ n → decimal_of i s ≤ decimal_of n s
