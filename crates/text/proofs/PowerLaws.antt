@@ -30,7 +30,7 @@ lt_pow n b k h none =
 
 no_more_digits : (b width n k most : ℕ) → 0 < b → IsDigitCount b width n k → width ≤ most → n < b ^ most → most < k → ⊥
 no_more_digits b width n k most h fewest within holds over =
-    let p : b ^ (k - 1) ≤ n = fewest.1.1 (omega arith) in
+    let p : b ^ (k - 1) ≤ n = fewest.2 (omega arith) in
     let q : b ^ most ≤ b ^ (k - 1) = pow-le-pow_right h (omega arith) in
     omega arith
 

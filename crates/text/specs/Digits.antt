@@ -12,4 +12,4 @@ last_digits b (suc k) n = last_digits b k (n / b) ++ (hex_digit_ascii (n % b) �
 
 -- n takes k digits in base b, when padded to `width` digits
 abbrev pub IsDigitCount : ℕ → ℕ → ℕ → ℕ → Type 0
-IsDigitCount b width n k = (width ≤ k) × ((n < b ^ k) × (width < k → b ^ (k - 1) ≤ n))
+IsDigitCount b width n k = (width ≤ k) × (n < b ^ k) × (width < k → b ^ (k - 1) ≤ n)
