@@ -15,7 +15,7 @@ use model::{Answer, UnitNo};
 use slots::Found;
 
 // The answer of an open or a close.
-#[derive(Drop)]
+#[derive(Clone, Copy)]
 pub struct Answered {
     pub answer: Answer,
 }

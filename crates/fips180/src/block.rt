@@ -4,7 +4,7 @@ ghost use Rattle.fips180.specs.Sha1.{f, K, schedule, turned, round, rounds, plus
 ghost use Rattle.fips180.specs.Begun.{Begun};
 
 // The hash value H0 to H4, and the working variables a to e.
-#[derive(Drop)]
+#[derive(Clone, Copy)]
 pub struct State {
     pub a: u32,
     pub b: u32,

@@ -1,5 +1,6 @@
 // SHA-1 (FIPS 180-4) over lent bytes: a running state that takes parts one after another, and the digest.
 #![tactic(auto)]
+
 mod block;
 
 ghost use Rattle.std.specs.Prelude.{◌≡◌, List, [], ℕ, ◌/◌, ◌%◌, length};
@@ -11,7 +12,7 @@ ghost use Rattle.fips180.specs.Running.{Holds, Continued};
 pub use block::State;
 
 // A hash that has taken in a message so far: the bytes after its whole blocks, its length, and the state after its whole blocks.
-#[derive(Drop)]
+#[derive(Clone, Copy)]
 pub struct Running {
     pub buffer: [u8; 64],
     pub total: u64,

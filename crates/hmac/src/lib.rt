@@ -1,5 +1,6 @@
 // HMAC (RFC 2104) with SHA-1: a running state that takes parts one after another, and one call for a whole message.
 #![tactic(auto)]
+
 ghost use Rattle.std.specs.Prelude.{◌≡◌, List, [], ℕ, ◌≤◌, length};
 ghost use Rattle.md.specs.Parts.{Takes};
 ghost use Rattle.hmac.specs.Hmac.{extended, masked, key_block, hmac, by_sha1};

@@ -6,7 +6,7 @@ ghost use Rattle.judge.specs.Judgement.{rules_for};
 use model::Need;
 
 // The command's code, its page, and what it needs.
-#[derive(Drop)]
+#[derive(Clone, Copy)]
 pub struct Facts {
     pub code: u8,
     pub page: u32,

@@ -1,5 +1,6 @@
 // What hashes of Merkle and Damgård's kind with blocks of 64 bytes share: the buffer of a block, and the padded end of a message.
 #![tactic(auto)]
+
 ghost use Rattle.std.specs.Prelude.{◌≡◌, ◌∷◌, ◌++◌, ◌+◌, ◌-◌, ◌%◌, ◌≤◌, ◌<◌, length, take, replicate};
 ghost use Rattle.std.proofs.Math.Seq.{paste};
 ghost use Rattle.md.specs.Padding.{zeros_for, padding};

@@ -40,17 +40,17 @@ pub const SET_KEY: u32 = 0x0014;
 pub const CHANGE_MASTER: u32 = 0x0015;
 
 // Three numbers that are never taken for one another.
-#[derive(Drop)]
+#[derive(Clone, Copy)]
 pub struct UnitNo(pub u32);
 
-#[derive(Drop)]
+#[derive(Clone, Copy)]
 pub struct SlotNo(pub u32);
 
-#[derive(Drop)]
+#[derive(Clone, Copy)]
 pub struct KeyVersion(pub u32);
 
 // What goes with CHECK CONDITION: sense key, additional code and qualifier, and the reason (1b is 0x1b).
-#[derive(Drop)]
+#[derive(Clone, Copy)]
 pub struct Sense {
     pub key: u8,
     pub code: u8,
@@ -59,7 +59,7 @@ pub struct Sense {
 }
 
 // A0 to A4 and H1 to H5.
-#[derive(Drop)]
+#[derive(Clone, Copy)]
 pub enum Answer {
     Good(u32),
     Parked(SlotNo),
@@ -74,7 +74,7 @@ pub enum Answer {
 }
 
 // What a command needs: nothing (Open), permission bits, or permission bits under a master key. An Unknown one is refused.
-#[derive(Drop)]
+#[derive(Clone, Copy)]
 pub enum Need {
     Unknown,
     Open,

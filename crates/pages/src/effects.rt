@@ -85,7 +85,7 @@ fn flipped_identifier(keys: &[u8]) -> [u8; 16]
 }
 
 // Both next keys of a Seed Exchange.
-#[derive(Drop)]
+#[derive(Clone, Copy)]
 struct Pair {
     auth: [u8; 20],
     generation: [u8; 20],

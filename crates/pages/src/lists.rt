@@ -10,7 +10,7 @@ use model::KeyVersion;
 
 // How many bytes each of a page's three numbers has (document 01, "Pages"). Set Attributes: method, tag, zeros; Set Key: version, zeros;
 // Seed Exchange: group, zeros. A number that a page does not have has none: it is 0, and the reader does not move.
-#[derive(Drop)]
+#[derive(Clone, Copy)]
 struct Widths {
     first: usize,
     second: usize,

@@ -6,7 +6,7 @@ ghost use Rattle.wire.specs.Bytes.{part, number};
 ghost use Rattle.pages.specs.Front.{AtFront};
 
 // The list that is lent, and how far the reader got.
-#[derive(Drop)]
+#[derive(Clone, Copy)]
 pub struct Reader<'a> {
     pub list: &'a [u8],
     pub at: usize,
@@ -45,7 +45,7 @@ fn next_number<'s, 'a>(r: &'s mut Reader<'a>, n: usize) -> u32
 
 // What stands at the front of a parameter list: page code, page length, three numbers, and where the run of bytes behind them starts, which
 // is how far the reader got.
-#[derive(Drop)]
+#[derive(Clone, Copy)]
 pub struct Front {
     pub page: u32,
     pub length: u32,

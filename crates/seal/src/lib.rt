@@ -1,5 +1,6 @@
 // The check of a record of 512 bytes, and the blank record, whose check is a constant: nothing is hashed to find or make one.
 #![tactic(auto)]
+
 ghost use Rattle.std.specs.Prelude.{◌≡◌, ◌≤◌, length, take, replicate};
 ghost use Rattle.wire.specs.Bytes.{same};
 ghost use Rattle.fips180.specs.Sha1.{sha1};

@@ -24,7 +24,7 @@ pub const TOKEN: usize = 108;
 const UNNAMED: usize = 172;
 
 // What the record of a slot is.
-#[derive(Drop)]
+#[derive(Clone, Copy)]
 pub enum SlotState {
     Free,
     Open,
@@ -32,7 +32,7 @@ pub enum SlotState {
 }
 
 // A slot, or none.
-#[derive(Drop)]
+#[derive(Clone, Copy)]
 pub enum Found {
     At(SlotNo),
     Nothing,

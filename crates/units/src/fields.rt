@@ -120,7 +120,7 @@ pub fn has_bit(mask: u32, v: u32) -> bool
 }
 
 // A working key, and whether the mask calls it valid.
-#[derive(Drop)]
+#[derive(Clone, Copy)]
 pub struct Key {
     pub valid: bool,
     pub bytes: [u8; 20],

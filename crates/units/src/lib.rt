@@ -15,7 +15,7 @@ pub use fields::{
 };
 use model::UnitNo;
 
-#[derive(Drop)]
+#[derive(Clone, Copy)]
 pub enum UnitState {
     Unused,
     Used,

@@ -1,0 +1,9 @@
+-- The stored check against the one made.
+use mathlib.Core.Path.{◌∙◌, ap₂}
+use Rattle.wire.specs.Bytes.{same}
+use Rattle.seal.specs.Seal.{checked}
+use Rattle.seal.proofs.is_checked.Goals as goal
+
+pub returns : goal.returns
+unfolding checked
+returns c = c.same20.ensures ∙ ap₂ same c.bytes20-stored.ensures c.check_of-made.ensures
