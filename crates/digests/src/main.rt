@@ -5,7 +5,7 @@
 use libc::STDOUT_FILENO;
 use text::{Told, word_at, word_end};
 
-#[derive(Drop)]
+#[derive(Clone, Copy)]
 struct Reply {
     ok: bool,
     digest: [u8; 20],

@@ -7,7 +7,7 @@ use model::{SlotNo, UnitNo};
 use text::word_at;
 
 // The lent buffers, by name.
-#[derive(Drop)]
+#[derive(Clone, Copy)]
 pub enum Table {
     Units,
     Slots,
@@ -17,7 +17,7 @@ pub enum Table {
 // What a line asks for. Byte strings stand in the space lent for them, one after another; a number says where one ends. Build's are the
 // identifier, 16 bytes, and the two keys, 20 bytes each; its keeper is the field's value, zero or one more than the keeper's number. A
 // wrong line has a word with a fault, or is as a whole too long.
-#[derive(Drop)]
+#[derive(Clone, Copy)]
 pub enum Call {
     Blank,
     Build {
@@ -147,7 +147,7 @@ fn read_abort(line: &[u8], r: Reading) -> Call {
 }
 
 // A word that is one of a list's, by its place; where it is none of them the reading has the fault, and the place is n.
-#[derive(Drop)]
+#[derive(Clone, Copy)]
 struct Named {
     place: usize,
     next: Reading,

@@ -4,7 +4,7 @@ ghost use Rattle.std.specs.Prelude.{◌≡◌, ◌≤◌};
 use text::{word_at, word_end};
 
 // Why a line can't be read. Nothing: as far as it was read, it can.
-#[derive(Drop)]
+#[derive(Clone, Copy)]
 pub enum Fault {
     Nothing,
     UnknownWord,
@@ -21,7 +21,7 @@ pub enum Fault {
 
 // How far a line has been read: where the next word is looked for, how many bytes its byte strings have laid into the space lent for
 // them, the number of the next word, and the first fault. Once there is one, reading goes no further, and the number is the faulty word's.
-#[derive(Drop)]
+#[derive(Clone, Copy)]
 pub struct Reading {
     pub at: usize,
     pub used: usize,
@@ -30,7 +30,7 @@ pub struct Reading {
 }
 
 // A number that was read.
-#[derive(Drop)]
+#[derive(Clone, Copy)]
 pub struct Number {
     pub value: u64,
     pub next: Reading,
@@ -124,7 +124,7 @@ pub fn take_number(line: &[u8], r: Reading, most: u64) -> Number
 }
 
 // A number of 32 bits that was read.
-#[derive(Drop)]
+#[derive(Clone, Copy)]
 pub struct Small {
     pub value: u32,
     pub next: Reading,

@@ -10,7 +10,7 @@ use model::{Answer, SlotNo, UnitNo};
 use text::Told;
 
 // What a run keeps from line to line: the tables and the reply, whether the reasons' words are asked for, and how it went so far.
-#[derive(Drop)]
+#[derive(Clone, Copy)]
 struct State {
     units: [u8; 4096],
     slots: [u8; 8192],

@@ -13,7 +13,7 @@ use text::put;
 pub use unit::put_unit;
 
 // The part of a unit's record. Nothing: it is sound.
-#[derive(Drop)]
+#[derive(Clone, Copy)]
 pub enum UnitPart {
     Nothing,
     Check,
@@ -28,7 +28,7 @@ pub enum UnitPart {
 }
 
 // The part of a slot's record.
-#[derive(Drop)]
+#[derive(Clone, Copy)]
 pub enum SlotPart {
     Nothing,
     Check,

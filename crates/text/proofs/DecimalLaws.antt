@@ -1,10 +1,10 @@
 -- Laws of decimal numbers: more digits say no less, and a number as text is read back as the same number.
-use Rattle.std.specs.Prelude.{◌≡◌, refl, Bool, true, false, List, [], ◌∷◌, ◌++◌, ℕ, zero, suc, ◌+◌, ◌*◌, ◌-◌, ◌/◌, ◌%◌, ◌^◌, ◌≤◌, ◌<◌, length, get_or, ◌⊎◌, leb}
-use Rattle.std.proofs.Common.{◌∙◌, sym, ap, ap₂, arith, length-append, ⊎_elim, le_refl, pow-suc, lt-ltb}
+use Rattle.std.specs.Prelude.{◌≡◌, refl, true, false, List, [], ℕ, zero, suc, ◌+◌, ◌*◌, ◌/◌, ◌%◌, ◌^◌, ◌≤◌, ◌<◌, length, get_or, leb}
+use Rattle.std.proofs.Common.{◌∙◌, ap, ap₂, arith, length-append, ⊎_elim, le_refl, pow-suc, lt-ltb}
 use Rattle.std.proofs.Math.ListN.{get_or-append}
 use Rattle.std.proofs.lemmas.List.{get_or_at}
 use Rattle.std.proofs.lemmas.Bool.{lt-leb}
-use Rattle.text.specs.Digits.{last_digits, hex_digit_ascii, IsDigitCount}
+use Rattle.text.specs.Digits.{last_digits, hex_digit_ascii}
 use Rattle.text.specs.Hex.{value, all_digits}
 use Rattle.text.specs.Decimal.{decimal_of, SpelledOut}
 use Rattle.text.proofs.HexLaws.{last_or_before, one_more, all_below, value_numeral}

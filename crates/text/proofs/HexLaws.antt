@@ -4,7 +4,7 @@ use Rattle.std.proofs.Common.{◌∙◌, sym, ap, ap₂, inl, inr, ⊎_elim, ari
 use Rattle.std.proofs.Math.ListN.{length, get_or-append}
 use Rattle.std.proofs.Math.Seq.{take-length}
 use Rattle.std.proofs.lemmas.Bool.{lt-leb, eqb-false}
-use Rattle.choice.specs.Choice.{both, either, pick}
+use Rattle.choice.specs.Choice.{both}
 use Rattle.choice.specs.ChoiceLaws.{both_true, both_none, either_right, pick_cases}
 use Rattle.wire.specs.Bytes.{AreBytes, patch}
 use Rattle.wire.proofs.PatchLaws.{length_patch, patch_join}

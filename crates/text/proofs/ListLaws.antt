@@ -1,6 +1,6 @@
 -- Laws of lists of texts: how the lines are counted.
-use Rattle.std.specs.Prelude.{◌≡◌, refl, List, ℕ, suc, ◌+◌, ◌-◌, ◌≤◌, ◌<◌, length, take, drop}
-use Rattle.std.proofs.Common.{◌∙◌, sym, ap, arith, length-drop, drop_of_length-le, drop-drop}
+use Rattle.std.specs.Prelude.{◌≡◌, List, ℕ, suc, ◌+◌, ◌-◌, ◌≤◌, ◌<◌, length, take, drop}
+use Rattle.std.proofs.Common.{◌∙◌, sym, ap, arith, drop_of_length-le, drop-drop}
 use Rattle.std.proofs.Math.Seq.{take-length}
 use Rattle.text.specs.Scan.{slice, index_of}
 use Rattle.text.specs.Lists.{line_of}

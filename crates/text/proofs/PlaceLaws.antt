@@ -1,5 +1,5 @@
 -- Laws of text put into a buffer: with room it stands there, without the buffer is as it was.
-use Rattle.std.specs.Prelude.{◌≡◌, refl, true, false, List, ℕ, ◌+◌, ◌≤◌, ◌<◌}
+use Rattle.std.specs.Prelude.{◌≡◌, List, ℕ, ◌+◌, ◌≤◌, ◌<◌}
 use Rattle.std.proofs.Math.ListN.{length}
 use Rattle.std.proofs.Common.{le-leb}
 use Rattle.std.proofs.lemmas.Bool.{lt-leb}

@@ -1,6 +1,6 @@
 -- Laws of the search for a byte: how it goes on, and where it ends.
-use Rattle.std.specs.Prelude.{◌≡◌, refl, List, [], ◌∷◌, ℕ, suc, ◌+◌, ◌-◌, ◌≤◌, ◌<◌, eqb, length, get_or, take, drop}
-use Rattle.std.proofs.Common.{◌∙◌, sym, ap, arith, add-one, eq-eqb, ne_eqb, length-take, drop_of_length-le, drop-cons}
+use Rattle.std.specs.Prelude.{◌≡◌, List, ◌∷◌, ℕ, ◌+◌, ◌≤◌, ◌<◌, length, get_or, take}
+use Rattle.std.proofs.Common.{arith, add-one, eq-eqb, ne_eqb, length-take, drop_of_length-le, drop-cons}
 use Rattle.std.proofs.lemmas.List.{get_or-take}
 use Rattle.text.specs.Scan.{slice, index_of}
 
@@ -12,7 +12,7 @@ slice_cons : (s : List ℕ) (end at : ℕ) → at < end → end ≤ length s →
 unfolding slice
 slice_cons s end at h room =
     let long : at < length (take end s) = omega (arith, length-take end s) in
-    rw (add-one, drop-cons (take end s) at 0) (rw (get_or-take s end at 0 h))
+    rw (add-one, drop-cons (take end s) at 0) (rw (get_or-take end s at 0 h))
 
 -- c does not stand here: the search goes on behind
 pub found_next : (c : ℕ) (s : List ℕ) (end at : ℕ) → at < end → end ≤ length s → (get_or s at 0 ≡ c → ⊥) → found c s end (at + 1) ≡ found c s end at
@@ -25,6 +25,6 @@ found_here c s end at h room e = rw (slice_cons s end at h room, eq-eqb (get_or 
 
 pub found_none : (c : ℕ) (s : List ℕ) (end at : ℕ) → end ≤ at → at ≡ found c s end at
 unfolding index_of slice
-found_none c s end at h = 
+found_none c s end at h =
     let short : length (take end s) ≤ at = omega (arith, length-take end s) in
     rw (drop_of_length-le (take end s) short) (omega arith)

@@ -1,9 +1,8 @@
 -- Laws of words: how a search for the next gap, or for what is none, goes on and ends.
-use Rattle.std.specs.Prelude.{◌≡◌, refl, ◌⊎◌, Bool, true, false, not, List, ℕ, suc, ◌+◌, ◌-◌, ◌≤◌, ◌<◌, min, eqb, length, get_or, take}
-use Rattle.std.proofs.Common.{◌∙◌, sym, ap, ⊎_elim, arith}
+use Rattle.std.specs.Prelude.{◌≡◌, Bool, not, List, ℕ, ◌+◌, ◌-◌, ◌≤◌, ◌<◌, eqb, length, get_or, take}
+use Rattle.std.proofs.Common.{◌∙◌, ap, ⊎_elim, arith}
 use Rattle.std.proofs.Math.Nat.{sub-zero}
 use borrow.Author.Tests.{eq-eqb, ne_eqb}
-use Rattle.choice.specs.Choice.{both}
 use Rattle.choice.specs.ChoiceLaws.{both_none}
 use Rattle.text.specs.Words.{is_gap, First, unreturned}
 use Rattle.text.proofs.HexLaws.{last_or_before}

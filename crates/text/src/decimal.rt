@@ -8,7 +8,7 @@ use super::hex::value;
 use super::put;
 
 // A decimal number, 0 where it is above its bound, and whether it is within it.
-#[derive(Drop)]
+#[derive(Clone, Copy)]
 pub struct Decimal {
     pub value: u64,
     pub fits: bool,

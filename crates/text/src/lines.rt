@@ -7,7 +7,7 @@ use std::io::Read;
 // How far the input has come: of the chunk that was read last, the bytes from `next` up to `end` are still to be taken. A proved loop has
 // to end, and nothing says that the input does: so `left` counts down its lines and reads, from a number that no run uses up. It is 0
 // once the input has ended, or could not be read on, which is `failed`.
-#[derive(Drop)]
+#[derive(Clone, Copy)]
 pub struct Input {
     pub left: u64,
     pub next: usize,
@@ -16,7 +16,7 @@ pub struct Input {
 }
 
 // A line, if there was one, of `used` bytes; and how far the input has come with it. A line that is too long has BAD bytes.
-#[derive(Drop)]
+#[derive(Clone, Copy)]
 pub struct Line {
     pub found: bool,
     pub used: usize,

@@ -5,7 +5,7 @@ use std::io::Write;
 
 // How a run over the lines of standard input went: how many lines could not be read as what they are to be, and whether all answers
 // were written.
-#[derive(Drop)]
+#[derive(Clone, Copy)]
 pub struct Told {
     pub unread: u64,
     pub written: bool,

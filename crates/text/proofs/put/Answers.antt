@@ -2,7 +2,6 @@
 use mathlib.Core.Path.{◌∙◌, sym}
 use native.Mathlib.Omega.{arith}
 use Rattle.text.proofs.PlaceLaws.{placed_behind, placed_in, unplaced_behind, unplaced_in}
-use borrow.Author.Rules.{rules}
 use Rattle.text.proofs.put.Goals as goal
 
 pub returns-then-out-at : goal.returns-then-out-at

@@ -1,17 +1,14 @@
 -- What the digits so far say is at most the bound; more of them say no less.
 use mathlib.Core.Path.{◌≡◌, ◌∙◌, sym, ap}
-use Prim.Native.Nat.{◌+◌, ◌*◌, ◌≤◌, ◌-◌}
 use native.Mathlib.Omega.{arith}
 use lib.ListN.{length}
 use Rattle.text.specs.Decimal.{decimal_of}
-use Rattle.text.proofs.HexLaws.{value_most}
-use Rattle.text.proofs.DecimalLaws.{decimal_grows, decimal_next}
+use Rattle.text.proofs.DecimalLaws.{decimal_next}
 use mathlib.Core.Bool.{Bool}
 use Prim.Native.Nat.{ℕ}
 use borrow.Author.Tests.{le-leb}
 use Rattle.choice.specs.Choice.{pick}
 use Rattle.text.proofs.DecimalLaws.{decimal_none, exceeds}
-use borrow.Author.Rules.{rules}
 use Rattle.text.proofs.decimal.number_of.Goals as goal
 
 pub loop-i-init : goal.loop-i-init

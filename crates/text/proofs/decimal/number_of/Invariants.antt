@@ -1,17 +1,8 @@
 -- What the digits so far say is at most the bound; more of them say no less.
-use mathlib.Core.Path.{◌≡◌, ◌∙◌, sym, ap}
-use Prim.Native.Nat.{◌+◌, ◌*◌, ◌≤◌, ◌-◌}
-use native.Mathlib.Omega.{arith}
+use mathlib.Core.Path.{◌≡◌}
+use Prim.Native.Nat.{◌≤◌, ◌-◌}
 use lib.ListN.{length}
 use Rattle.text.specs.Decimal.{decimal_of}
-use Rattle.text.proofs.HexLaws.{value_most}
-use Rattle.text.proofs.DecimalLaws.{decimal_grows, decimal_next}
-use mathlib.Core.Bool.{Bool}
-use Prim.Native.Nat.{ℕ}
-use borrow.Author.Tests.{le-leb}
-use Rattle.choice.specs.Choice.{pick}
-use Rattle.text.proofs.DecimalLaws.{decimal_none, exceeds}
-use borrow.Author.Rules.{rules}
 use Rattle.text.proofs.decimal.number_of.Given as goal
 
 abbrev pub invariant-loop-i : goal.invariant-loop-i

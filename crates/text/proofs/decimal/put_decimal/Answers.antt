@@ -1,6 +1,4 @@
 -- The digits are those that `decimal` spells.
-use mathlib.Core.Path.{◌≡◌}
-use borrow.Author.Rules.{rules}
 use Rattle.text.proofs.decimal.put_decimal.Goals as goal
 
 pub returns : goal.returns

@@ -1,7 +1,7 @@
 use native.Mathlib.Omega.{arith}
 use mathlib.Core.Path.{ap, ◌∙◌}
 use Prim.Native.Nat.{ℕ, ◌/◌}
-use Rattle.text.proofs.PowerLaws.{two_div_le, div_pow_one, div_pow_div, pow_le, lt_pow}
+use Rattle.text.proofs.PowerLaws.{div_pow_one, div_pow_div, pow_le, lt_pow}
 use Rattle.text.proofs.digits.digit_count.Goals as goal
 
 pub loop-rest-init : goal.loop-rest-init

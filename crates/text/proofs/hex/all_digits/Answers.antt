@@ -1,6 +1,5 @@
 -- All so far say values below the base.
 use mathlib.Core.Path.{◌≡◌, ◌∙◌, sym, ap}
-use Prim.Native.Nat.{◌≤◌, ◌-◌}
 use native.Mathlib.Omega.{arith}
 use lib.ListN.{length}
 use Rattle.text.specs.Hex.{all_digits}
@@ -11,7 +10,6 @@ use mathlib.Core.Bool.{Bool}
 use Prim.Native.Nat.{ℕ}
 use lib.Dec.{ltb}
 use Rattle.choice.specs.Choice.{both}
-use borrow.Author.Rules.{rules}
 use Rattle.text.proofs.hex.all_digits.Goals as goal
 
 pub loop-i-init : goal.loop-i-init

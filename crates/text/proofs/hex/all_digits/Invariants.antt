@@ -1,17 +1,8 @@
 -- All so far say values below the base.
-use mathlib.Core.Path.{◌≡◌, ◌∙◌, sym, ap}
+use mathlib.Core.Path.{◌≡◌}
 use Prim.Native.Nat.{◌≤◌, ◌-◌}
-use native.Mathlib.Omega.{arith}
 use lib.ListN.{length}
 use Rattle.text.specs.Hex.{all_digits}
-use Rattle.text.proofs.HexLaws.{all_next}
-use Rattle.text.proofs.HexLaws.{all_none}
-use mathlib.Core.Path.{ap₂}
-use mathlib.Core.Bool.{Bool}
-use Prim.Native.Nat.{ℕ}
-use lib.Dec.{ltb}
-use Rattle.choice.specs.Choice.{both}
-use borrow.Author.Rules.{rules}
 use Rattle.text.proofs.hex.all_digits.Given as goal
 
 abbrev pub invariant-loop-i : goal.invariant-loop-i

@@ -6,7 +6,6 @@ use Prim.Native.Nat.{◌%◌}
 use lib.Dec.{eqb}
 use lib.ListN.{length}
 use Rattle.choice.specs.Choice.{both}
-use borrow.Author.Rules.{rules}
 use Rattle.text.proofs.hex.are_pairs.Goals as goal
 
 pub returns : goal.returns

@@ -4,7 +4,6 @@ use Rattle.text.proofs.HexLaws.{digit_below}
 use Prim.Native.Nat.{◌*◌}
 use lib.ListN.{length}
 use Prim.Native.Nat.{◌+◌}
-use borrow.Author.Rules.{rules}
 use Rattle.text.proofs.hex.byte_of.Goals as goal
 
 pub overflow_mul-result : goal.overflow_mul-result

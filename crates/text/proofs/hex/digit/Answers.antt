@@ -1,9 +1,7 @@
 -- Below ten a numeral, from ten on a letter.
 use native.Mathlib.Omega.{arith}
-use borrow.Author.Tests.{lt-ltb, le-ltb}
 use Rattle.text.proofs.HexLaws.{digit_numeral, digit_letter}
 use mathlib.Core.Path.{◌∙◌, sym}
-use borrow.Author.Rules.{rules}
 use Rattle.text.proofs.hex.digit.Goals as goal
 
 pub returns-then-x-lt10 : goal.returns-then-x-lt10

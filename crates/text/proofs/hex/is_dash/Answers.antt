@@ -5,7 +5,6 @@ use Prim.Native.Nat.{ℕ}
 use lib.Dec.{eqb}
 use lib.ListN.{length}
 use Rattle.choice.specs.Choice.{both}
-use borrow.Author.Rules.{rules}
 use Rattle.text.proofs.hex.is_dash.Goals as goal
 
 pub returns : goal.returns

@@ -1,11 +1,11 @@
 -- What is put so far are the digits of the bytes so far.
 use mathlib.Core.Path.{◌≡◌, ◌∙◌, sym, ap}
-use Prim.Native.Nat.{◌+◌, ◌*◌, ◌≤◌, ◌-◌}
+use Prim.Native.Nat.{◌+◌, ◌*◌}
 use native.Mathlib.Omega.{arith}
 use lib.ListN.{length}
 use Rattle.wire.specs.Bytes.{patch}
 use Rattle.text.specs.Hex.{digits_of}
-use Rattle.text.proofs.HexLaws.{digits_length, digits_next}
+use Rattle.text.proofs.HexLaws.{digits_length}
 use mathlib.Core.Path.{refl}
 use Prim.Native.Nat.{ℕ}
 use Rattle.text.proofs.HexLaws.{digits_none, digits_more}
@@ -14,7 +14,6 @@ use lib.ListN.{get_or}
 use Rattle.text.specs.Place.{with_text}
 use Rattle.text.specs.Hex.{two_digits}
 use Rattle.wire.proofs.PatchLaws.{length_patch, patch_none}
-use borrow.Author.Rules.{rules}
 use Rattle.text.proofs.hex.put_all.Goals as goal
 
 pub loop-i-init : goal.loop-i-init

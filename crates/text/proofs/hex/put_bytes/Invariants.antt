@@ -1,18 +1,9 @@
 -- What is put so far are the bytes of the pairs so far.
-use mathlib.Core.Path.{◌≡◌, ◌∙◌, sym, ap}
-use Prim.Native.Nat.{◌+◌, ◌*◌, ◌≤◌, ◌-◌}
-use native.Mathlib.Omega.{arith}
+use mathlib.Core.Path.{◌≡◌}
+use Prim.Native.Nat.{◌≤◌, ◌-◌}
 use lib.ListN.{length}
 use Rattle.wire.specs.Bytes.{patch}
 use Rattle.text.specs.Hex.{bytes_in}
-use Rattle.text.proofs.HexLaws.{bytes_length, bytes_next}
-use mathlib.Core.Path.{refl}
-use Prim.Native.Nat.{ℕ}
-use Rattle.text.proofs.HexLaws.{bytes_none, bytes_more}
-use mathlib.Core.Path.{ap₂}
-use mathlib.Core.List.{List, [], ◌∷◌}
-use Rattle.wire.proofs.PatchLaws.{length_patch, patch_none}
-use borrow.Author.Rules.{rules}
 use Rattle.text.proofs.hex.put_bytes.Given as goal
 
 abbrev pub invariant-loop-i : goal.invariant-loop-i

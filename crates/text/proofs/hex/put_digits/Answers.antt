@@ -4,7 +4,6 @@ use mathlib.Core.Path.{◌≡◌, ◌∙◌, ap, ap₂}
 use mathlib.Core.List.{[], ◌∷◌}
 use Prim.Native.Nat.{ℕ}
 use Rattle.text.specs.Place.{place_behind, with_text}
-use borrow.Author.Rules.{rules}
 use Rattle.text.proofs.hex.put_digits.Goals as goal
 
 pub returns : goal.returns

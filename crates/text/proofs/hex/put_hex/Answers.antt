@@ -8,7 +8,6 @@ use lib.ListN.{length}
 use Rattle.wire.specs.Bytes.{patch}
 use Rattle.text.specs.Place.{place_behind, with_text}
 use Rattle.text.specs.Hex.{hex_text}
-use borrow.Author.Rules.{rules}
 use Rattle.text.proofs.hex.put_hex.Goals as goal
 
 pub returns-then-s-eq0 : goal.returns-then-s-eq0

@@ -6,7 +6,6 @@ use Rattle.text.proofs.HexLaws.{bytes_length}
 use Prim.Native.Nat.{◌/◌}
 use lib.ListN.{length}
 use Rattle.text.specs.Hex.{bytes_in}
-use borrow.Author.Rules.{rules}
 use Rattle.text.proofs.hex.put_pairs.Goals as goal
 
 pub returns-then-out-at : goal.returns-then-out-at

@@ -1,7 +1,6 @@
 -- A dash, pairs of digits, or no hex.
 use mathlib.Core.Path.{◌∙◌, sym}
 use Rattle.text.proofs.HexLaws.{unhex_dash, unhex_pairs, unhex_none, pairs_digits}
-use borrow.Author.Rules.{rules}
 use Rattle.text.proofs.hex.unhex.Goals as goal
 
 pub returns-then-is_dash : goal.returns-then-is_dash

@@ -3,7 +3,6 @@ use mathlib.Core.Path.{◌∙◌, sym}
 use mathlib.Core.Logic.{inl, inr}
 use native.Mathlib.Omega.{arith}
 use Rattle.text.proofs.HexLaws.{value_numeral, value_capital, value_letter, value_none}
-use borrow.Author.Rules.{rules}
 use Rattle.text.proofs.hex.value.Goals as goal
 
 pub returns-in-48-to-57 : goal.returns-in-48-to-57

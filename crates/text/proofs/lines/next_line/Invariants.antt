@@ -2,7 +2,6 @@
 use mathlib.Core.Path.{◌≡◌}
 use Prim.Native.Nat.{◌≤◌}
 use lib.ListN.{length}
-use borrow.Author.Rules.{rules}
 use Rattle.text.proofs.lines.next_line.Given as goal
 
 abbrev pub invariant-loop-rest : goal.invariant-loop-rest

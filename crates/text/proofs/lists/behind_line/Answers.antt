@@ -1,7 +1,6 @@
 -- Behind the newline, or at the end.
 use native.Mathlib.Omega.{arith}
 use Rattle.text.proofs.ListLaws.{rest_behind, rest_ended}
-use borrow.Author.Rules.{rules}
 use Rattle.text.proofs.lists.behind_line.Goals as goal
 
 pub returns-then-stop-list : goal.returns-then-stop-list

@@ -1,12 +1,11 @@
 -- What is left of the list has the line with what is left of the number.
-use mathlib.Core.Path.{◌≡◌, ◌∙◌, sym, ap, refl}
-use Prim.Native.Nat.{◌≤◌, ◌-◌}
+use mathlib.Core.Path.{◌≡◌, ◌∙◌, sym, ap}
+use Prim.Native.Nat.{◌-◌}
 use native.Mathlib.Omega.{arith}
-use lib.ListN.{length, drop}
+use lib.ListN.{drop}
 use Rattle.text.specs.Lists.{line_of}
 use Rattle.text.proofs.ListLaws.{line_next, line_here}
 use Prim.Native.Nat.{ℕ, ◌+◌}
-use borrow.Author.Rules.{rules}
 use Rattle.text.proofs.lists.line_of.Goals as goal
 
 pub loop-i-init : goal.loop-i-init

@@ -1,12 +1,8 @@
 -- What is left of the list has the line with what is left of the number.
-use mathlib.Core.Path.{◌≡◌, ◌∙◌, sym, ap, refl}
+use mathlib.Core.Path.{◌≡◌}
 use Prim.Native.Nat.{◌≤◌, ◌-◌}
-use native.Mathlib.Omega.{arith}
 use lib.ListN.{length, drop}
 use Rattle.text.specs.Lists.{line_of}
-use Rattle.text.proofs.ListLaws.{line_next, line_here}
-use Prim.Native.Nat.{ℕ, ◌+◌}
-use borrow.Author.Rules.{rules}
 use Rattle.text.proofs.lists.line_of.Given as goal
 
 abbrev pub invariant-loop-i : goal.invariant-loop-i

@@ -1,5 +1,5 @@
 -- The search goes on behind each byte that is another, and ends at the byte or at the end.
-use Rattle.std.proofs.Common.{◌≡◌, ◌∙◌, ℕ, ap, arith}
+use Rattle.std.proofs.Common.{◌≡◌, ◌∙◌, ap, arith}
 use Rattle.text.proofs.ScanLaws.{found, found_next, found_here, found_none}
 use Rattle.text.proofs.scan.find.Goals as goal
 

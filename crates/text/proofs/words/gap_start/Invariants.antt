@@ -1,11 +1,8 @@
 -- No byte so far is what is looked for.
-use mathlib.Core.Path.{◌≡◌, ◌∙◌, sym}
-use mathlib.Core.Bool.{true, false}
+use mathlib.Core.Bool.{true}
 use Prim.Native.Nat.{◌-◌}
-use native.Mathlib.Omega.{arith}
 use lib.ListN.{length}
-use Rattle.text.proofs.WordLaws.{Searched, search_starts, search_goes_on, search_finds, search_ends}
-use borrow.Author.Rules.{rules}
+use Rattle.text.proofs.WordLaws.{Searched}
 use Rattle.text.proofs.words.gap_start.Given as goal
 
 abbrev pub invariant-loop-i : goal.invariant-loop-i

@@ -1,8 +1,6 @@
 -- Empty, with a carriage return at its end, or without.
-use mathlib.Core.Path.{◌≡◌}
 use native.Mathlib.Omega.{arith}
 use Rattle.text.proofs.WordLaws.{return_empty, return_there, return_none}
-use borrow.Author.Rules.{rules}
 use Rattle.text.proofs.words.without_return.Goals as goal
 
 pub returns-then-n-eq0 : goal.returns-then-n-eq0

@@ -1,7 +1,5 @@
 -- From its start up to the gap behind it.
-use mathlib.Core.Path.{◌≡◌}
 use mathlib.Core.Path.{refl}
-use borrow.Author.Rules.{rules}
 use Rattle.text.proofs.words.word_at.Goals as goal
 
 pub returns : goal.returns

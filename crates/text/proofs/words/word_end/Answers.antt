@@ -1,6 +1,4 @@
 -- From its start up to the gap behind it.
-use mathlib.Core.Path.{◌≡◌}
-use borrow.Author.Rules.{rules}
 use Rattle.text.proofs.words.word_end.Goals as goal
 
 pub returns : goal.returns

@@ -1,11 +1,8 @@
 -- No byte so far is what is looked for.
-use mathlib.Core.Path.{◌≡◌, ◌∙◌, sym}
-use mathlib.Core.Bool.{true, false}
-use Prim.Native.Nat.{◌-◌}
+use mathlib.Core.Path.{◌∙◌, sym}
+use mathlib.Core.Bool.{false}
 use native.Mathlib.Omega.{arith}
-use lib.ListN.{length}
-use Rattle.text.proofs.WordLaws.{Searched, search_starts, search_goes_on, search_finds, search_ends}
-use borrow.Author.Rules.{rules}
+use Rattle.text.proofs.WordLaws.{search_starts, search_goes_on, search_finds, search_ends}
 use Rattle.text.proofs.words.word_start.Goals as goal
 
 pub loop-i-init : goal.loop-i-init
