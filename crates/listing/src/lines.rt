@@ -1,5 +1,5 @@
 // The lines of a listing: which call each asks for.
-use super::words::{
+use super::reading::{
     Fault, Reading, at_end, behind, is_wrong, name_fault, take_bytes, take_exactly, take_keeper,
     take_number, take_small, wrong,
 };
@@ -68,7 +68,7 @@ const SWITCHES: [u8; 6] = *b"on\noff";
 fn place_in(list: &[u8], n: usize, word: &[u8]) -> usize {
     let mut i = 0;
     while i < n {
-        if check::same(text::line_of(list, i), word) {
+        if text::line_of(list, i) == word {
             return i;
         }
         i += 1;
@@ -263,7 +263,7 @@ fn read_call(line: &[u8], place: usize, r: Reading, space: &mut [u8]) -> Call {
 
 // The call that the line asks for. Its byte strings are laid into space, which has room for those of any line that is not too long.
 pub fn read(line: &[u8], space: &mut [u8]) -> Call {
-    let n = bytes::scan::find(line, 0, line.len(), b'#');
+    let n = text::find(line, 0, line.len(), b'#');
     let words = &line[0..n];
     let first = word_at(words, 0);
     if first.len() == 0 {

@@ -147,7 +147,7 @@ pub fn take_small(line: &[u8], r: Reading, most: u32) -> Small
 pub fn take_keeper(line: &[u8], r: Reading) -> Small {
     let fault = r.fault;
     let at = r.at;
-    let asked = choice::and(!is_wrong(fault), check::same(word_at(line, at), b"keeper"));
+    let asked = choice::and(!is_wrong(fault), word_at(line, at) == b"keeper".as_slice());
     if asked {
         let unit = take_small(line, behind(line, r, r.used), 0xffff_fffe);
         let next = unit.next;
