@@ -1,6 +1,7 @@
 // Published vectors of SHA-1 (NIST's examples for FIPS 180-4) and HMAC-SHA1 (RFC 2202).
 // A line for each: its name, what it must be, what it is, ok. Output that could not be written is said on standard error at the end.
 #![tactic(auto)]
+
 use std::io::Write;
 use text::{Told, put};
 
