@@ -2,6 +2,7 @@
 // answered by a line with the SHA-1 of the message or its HMAC-SHA1 under the key. Lines of up to 16,384 bytes. What failed is said on
 // standard error at the end.
 #![tactic(auto)]
+
 use std::io::{Read, Write};
 use text::{Told, word_at, word_end};
 
