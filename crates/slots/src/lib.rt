@@ -1,5 +1,6 @@
 // The table of sixteen slots: what a slot's record is, the lowest free slot, and a slot parked, freed, all freed.
 #![tactic(auto)]
+
 ghost use Rattle.std.specs.Prelude.{◌≡◌, ◌+◌, ◌-◌, ◌≤◌, ◌<◌, length};
 ghost use Rattle.wire.specs.Bytes.{zeros};
 ghost use Rattle.slots.specs.Slot.{right_token, slot_unit, slot_command, slot_token, open_shape, slot_state_of, open_head, open_record};

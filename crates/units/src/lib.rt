@@ -1,5 +1,6 @@
 // The table of eight unit records: what a unit's record is, what makes one sound, and which keeps a unit's keys.
 #![tactic(auto)]
+
 mod fields;
 
 ghost use Rattle.std.specs.Prelude.{◌≡◌, ◌<◌, length};

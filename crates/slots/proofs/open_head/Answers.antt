@@ -1,0 +1,8 @@
+-- Four numbers of two bytes.
+use Rattle.wire.specs.Bytes.{bytes_of}
+use Rattle.slots.specs.Slot.{open_head}
+use Rattle.slots.proofs.open_head.Goals as goal
+
+pub returns : goal.returns
+unfolding open_head bytes_of
+returns c = rw (c.bytes2-t.ensures, c.bytes2-c.ensures, c.bytes2-u.ensures)
