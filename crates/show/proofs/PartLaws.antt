@@ -4,7 +4,7 @@ use Rattle.std.specs.Prelude.{◌≡◌, refl, Bool, false, List, eqb, leb, get_
 use Rattle.std.proofs.Common.{◌∙◌, sym, eqb-true}
 use Rattle.std.proofs.Math.Path.{ap}
 use Rattle.std.proofs.Math.Bool.{true, not}
-use Prim.Native.Nat.{ℕ, zero, suc, ◌+◌, ◌-◌, ◌<◌, ◌≤◌}
+use Prim.Native.Nat.{ℕ, zero, suc, ◌+◌, ◌-◌, ◌<◌}
 use native.Mathlib.Omega.{arith}
 use Rattle.std.proofs.lemmas.Bool.{not-false, eqb-false}
 use Rattle.choice.specs.Choice.{both, either, pick}
@@ -13,7 +13,7 @@ use Rattle.wire.specs.Bytes.{zeros}
 use Rattle.seal.specs.Seal.{checked}
 use Rattle.model.specs.Codes.{data_out, legal_len}
 use Rattle.units.specs.declared.UnitState.TheVariants.{Unused, Used, Unsound}
-use Rattle.units.specs.Unit.{layout, unit_number, method, step, next_pair_zero, is_valid, keys_zero, keeper_shape, unnamed_zero, used_shape}
+use Rattle.units.specs.Unit.{layout, unit_number, method, step, next_pair_zero, keys_zero, keeper_shape, unnamed_zero, used_shape}
 use Rattle.units.specs.Unit.{unit_state_of, unit_at}
 use Rattle.units.specs.Unit.{keeper_of, keeps_keys, kept_state, unit_state}
 use Rattle.slots.specs.declared.SlotState.TheVariants.{Free, Open, Unsound as UnsoundSlot}

@@ -1,6 +1,7 @@
 // Records in plain lines: every field by its name, and of an unsound record which part of soundness fails first. The key fields are
 // never shown, only whether they are zero. docs/MANUAL.md has the lines.
 #![tactic(auto)]
+
 mod fields;
 mod parts;
 mod slot;
