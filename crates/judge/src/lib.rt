@@ -1,5 +1,6 @@
 // The judgement: whether a command may run, and the first reason of document 01's order that refuses it.
 #![tactic(auto)]
+
 mod facts;
 mod faults;
 mod groups;

@@ -1,5 +1,5 @@
 -- The effects' steps: what the code reads, makes and writes one after another is what their definitions say.
-use Rattle.std.specs.Prelude.{◌≡◌, refl, List, [], ◌∷◌, ◌++◌, ℕ, zero, suc, ◌≤◌, ◌<◌, length, get_or, set}
+use Rattle.std.specs.Prelude.{◌≡◌, refl, List, [], ◌∷◌, ◌++◌, ℕ, zero, suc, ◌<◌, length, get_or, set}
 use Rattle.std.proofs.Common.{◌∙◌, ap, arith}
 use Rattle.wire.specs.Bytes.{patch}
 use Rattle.wire.proofs.PatchLaws.{patch_all}
