@@ -6,7 +6,7 @@ use Rattle.std.proofs.Common.{sym, ◌∙◌, arith}
 use Rattle.std.proofs.Math.Bool.{false}
 use Rattle.std.proofs.Math.ListN.{length}
 use borrow.Author.Tests.{eqb-true, eqb-false, leb-true, eq-eqb, ne_eqb, le-leb, lt-leb, not-true}
-use Rattle.choice.specs.Choice.{both, either, pick}
+use Rattle.choice.specs.Choice.{both, pick}
 use Rattle.choice.specs.ChoiceLaws.{both_true}
 use Rattle.wire.specs.Bytes.{patch}
 use Rattle.wire.proofs.PatchLaws.{record_here, record_other, record_length}
@@ -15,7 +15,7 @@ use Rattle.model.proofs.AnswerLaws.{told_apart}
 use Rattle.model.specs.declared.Answer.{Answer}
 use Rattle.model.specs.declared.Answer.TheVariants.{Good, H1, H5}
 use Rattle.units.specs.declared.UnitState.TheVariants.{Used, Unsound}
-use Rattle.units.specs.Unit.{unit_at, keeper_field, unit_state_of, keeper_of, key_set_of, is_used, keeps_keys, unit_state}
+use Rattle.units.specs.Unit.{unit_at, keeper_field, unit_state_of, keeper_of, key_set_of, keeps_keys, unit_state}
 use Rattle.units.proofs.UnitLaws.{keeper_own, keeper_named, keeps_of, used_of_keeper, lost_keeper, same_keeper, same_keeps}
 use Rattle.units.specs.Fields.{Fields, fields_of, used_record, built}
 use Rattle.units.proofs.RoundLaws.{Fit, built_fit, used_length, used_fields, built_used}

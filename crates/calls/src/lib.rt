@@ -1,5 +1,6 @@
 // The calls. None asks anything of its caller; each promise fixes the answer and every lent byte for any input.
 #![tactic(auto)]
+
 mod closing;
 mod opening;
 
