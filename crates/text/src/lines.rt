@@ -56,8 +56,9 @@ fn read_chunk<R: Read>(from: &mut R, chunk: &mut [u8], left: u64) -> Input
     }
 }
 
-// Takes the next line of `from`, the standard input, into `line`, without its newline; the last one may have none. Reads only where the chunk is used up, so that a line
-// is handed on as soon as it is there. A line that a failed read cuts off is not handed on: it may say something else than it was to.
+// Takes the next line of `from`, the standard input, into `line`, without its newline; the last one may have none. Reads only where the
+// chunk is used up, so that a line is handed on as soon as it is there. A line that a failed read cuts off is not handed on: it may say
+// something else than it was to.
 pub fn next_line<R: Read>(from: &mut R, line: &mut [u8], chunk: &mut [u8], input: Input) -> Line
     requires { (0 < input.left) × (input.next ≤ input.end) × (input.end ≤ length chunk.old) }
     ensures { (result.input.left < input.left) × (result.input.next ≤ result.input.end) × (result.input.end ≤ length chunk.new) }
