@@ -2,10 +2,11 @@
 // answered by a line with the SHA-1 of the message or its HMAC-SHA1 under the key. Lines of up to 16,384 bytes. What failed is said on
 // standard error at the end.
 #![tactic(auto)]
-use libc::STDOUT_FILENO;
+
+use std::io::{Read, Write};
 use text::{Told, word_at, word_end};
 
-#[derive(Drop)]
+#[derive(Clone, Copy)]
 struct Reply {
     ok: bool,
     digest: [u8; 20],
@@ -52,7 +53,7 @@ fn mac_of(key: &[u8], message: &[u8], space: &mut [u8]) -> Reply {
 
 // Is the call's own word this one, with a word more or none in the place behind its last?
 fn asks(call: &[u8], name: &[u8], surplus: &[u8]) -> bool {
-    choice::and(check::same(call, name), surplus.len() == 0)
+    choice::and(call == name, surplus.len() == 0)
 }
 
 // What a line asks for, worked out in space.
@@ -73,54 +74,68 @@ fn answer(line: &[u8], space: &mut [u8]) -> Reply {
 }
 
 // A line of text, where all before it was written; says whether all was.
-fn print(words: &[u8], before: bool) -> bool {
+fn print<W: Write>(to: &mut W, words: &[u8], before: bool) -> bool {
     if before {
-        let written = io::write_all(STDOUT_FILENO, words);
-        return choice::and(written, io::write_all(STDOUT_FILENO, b"\n"));
+        let written = to.write_all(words).is_ok();
+        return choice::and(written, to.write_all(b"\n").is_ok());
     }
     false
 }
 
-fn say(words: &[u8], space: &mut [u8], told: Told) -> Told {
+fn say<W: Write>(to: &mut W, words: &[u8], space: &mut [u8], told: Told) -> Told {
     let a = answer(words, space);
     let before = told.written;
     if a.ok {
         let d = a.digest;
-        return text::one_more(told, true, print(&text::hex20(d), before));
+        return text::one_more(told, true, print(to, &text::hex20(d), before));
     }
-    text::one_more(told, false, print(b"not a request", before))
+    text::one_more(told, false, print(to, b"not a request", before))
 }
 
 // Answers the line of n bytes.
-fn answer_line(line: &[u8], n: usize, space: &mut [u8], told: Told) -> Told {
+fn answer_line<W: Write>(to: &mut W, line: &[u8], n: usize, space: &mut [u8], told: Told) -> Told {
     if n <= line.len() {
         let words = text::without_return(&line[0..n]);
-        return say(words, space, told);
+        return say(to, words, space, told);
     }
     let before = told.written;
-    text::one_more(told, false, print(b"line too long", before))
+    text::one_more(told, false, print(to, b"line too long", before))
 }
 
-// Answers every line of standard input, and says how it went.
-fn run(line: &mut [u8], chunk: &mut [u8], space: &mut [u8]) {
+// Answers every line of `from`, the standard input, to `to`, the standard output, and says to `errors` how it went.
+fn run<R: Read, W: Write, E: Write>(
+    from: &mut R,
+    to: &mut W,
+    errors: &mut E,
+    line: &mut [u8],
+    chunk: &mut [u8],
+    space: &mut [u8],
+) {
     let mut input = text::at_start();
     let mut told = Told {
         unread: 0,
         written: true,
     };
     while 0 < input.left {
-        let next = text::next_line(line, chunk, input);
+        let next = text::next_line(from, line, chunk, input);
         input = next.input;
         if next.found {
-            told = answer_line(line, next.used, space, told);
+            told = answer_line(to, line, next.used, space, told);
         }
     }
-    text::report(b"digests", input.failed, told);
+    text::report(errors, b"digests", input.failed, told);
 }
 
-fn main() {
+fn main(rt: HostRuntime) {
     let mut line = [0u8; 16384];
-    let mut chunk = io::buffer();
+    let mut chunk = [0u8; 4096];
     let mut space = [0u8; 16384];
-    run(&mut line, &mut chunk, &mut space);
+    run(
+        &mut rt.stdin(),
+        &mut rt.stdout(),
+        &mut rt.stderr(),
+        &mut line,
+        &mut chunk,
+        &mut space,
+    );
 }

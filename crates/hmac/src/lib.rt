@@ -7,7 +7,7 @@ ghost use Rattle.hmac.specs.Hmac.{extended, masked, key_block, hmac, by_sha1};
 ghost use Rattle.hmac.specs.Mac.{MacHolds};
 
 // An HMAC under a key that has taken in a message so far: the hashes of the inner and of the outer pass.
-#[derive(Drop)]
+#[derive(Clone, Copy)]
 pub struct Mac {
     pub inner: fips180::Running,
     pub outer: fips180::Running,

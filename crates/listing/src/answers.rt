@@ -1,6 +1,6 @@
 // What is printed for a line: the text of answers, faults and digests, put together in a lent buffer. Each function puts its text at a
 // place and answers the next, as text::put does.
-use super::words::Fault;
+use super::reading::Fault;
 use model::{Answer, Sense};
 use text::{digit, line_of, put, put_decimal, put_hex};
 use wire::least;

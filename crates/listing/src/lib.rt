@@ -1,10 +1,11 @@
-// A listing of calls: its lines read (`words`, `lines`), and what is printed for each (`answers`). One call to a line, words parted by
+// A listing of calls: its lines read (`reading`, `lines`), and what is printed for each (`answers`). One call to a line, words parted by
 // spaces and tabs; `#` starts a comment. docs/MANUAL.md has the words of each call and the answers.
 #![tactic(auto)]
+
 mod answers;
 mod lines;
-mod words;
+mod reading;
 
 pub use answers::{answer_text, fault_text, part, state_text};
 pub use lines::{Call, Table, read};
-pub use words::Fault;
+pub use reading::Fault;

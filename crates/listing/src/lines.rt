@@ -1,5 +1,5 @@
 // The lines of a listing: which call each asks for.
-use super::words::{
+use super::reading::{
     Fault, Reading, at_end, behind, is_wrong, name_fault, take_bytes, take_exactly, take_keeper,
     take_number, take_small, wrong,
 };
@@ -7,7 +7,7 @@ use model::{SlotNo, UnitNo};
 use text::word_at;
 
 // The lent buffers, by name.
-#[derive(Drop)]
+#[derive(Clone, Copy)]
 pub enum Table {
     Units,
     Slots,
@@ -17,7 +17,7 @@ pub enum Table {
 // What a line asks for. Byte strings stand in the space lent for them, one after another; a number says where one ends. Build's are the
 // identifier, 16 bytes, and the two keys, 20 bytes each; its keeper is the field's value, zero or one more than the keeper's number. A
 // wrong line has a word with a fault, or is as a whole too long.
-#[derive(Drop)]
+#[derive(Clone, Copy)]
 pub enum Call {
     Blank,
     Build {
@@ -68,7 +68,7 @@ const SWITCHES: [u8; 6] = *b"on\noff";
 fn place_in(list: &[u8], n: usize, word: &[u8]) -> usize {
     let mut i = 0;
     while i < n {
-        if check::same(text::line_of(list, i), word) {
+        if text::line_of(list, i) == word {
             return i;
         }
         i += 1;
@@ -147,7 +147,7 @@ fn read_abort(line: &[u8], r: Reading) -> Call {
 }
 
 // A word that is one of a list's, by its place; where it is none of them the reading has the fault, and the place is n.
-#[derive(Drop)]
+#[derive(Clone, Copy)]
 struct Named {
     place: usize,
     next: Reading,
@@ -263,7 +263,7 @@ fn read_call(line: &[u8], place: usize, r: Reading, space: &mut [u8]) -> Call {
 
 // The call that the line asks for. Its byte strings are laid into space, which has room for those of any line that is not too long.
 pub fn read(line: &[u8], space: &mut [u8]) -> Call {
-    let n = bytes::scan::find(line, 0, line.len(), b'#');
+    let n = text::find(line, 0, line.len(), b'#');
     let words = &line[0..n];
     let first = word_at(words, 0);
     if first.len() == 0 {

@@ -2,15 +2,16 @@
 // start there are eight unused units, sixteen free slots and a reply of zeros. Lines of up to 4,096 bytes; listings of any length. What
 // failed is said on standard error at the end.
 #![tactic(auto)]
+
 ghost use Rattle.std.specs.Prelude.{◌≤◌, length};
 
-use libc::STDOUT_FILENO;
 use listing::{Call, Fault, Table};
 use model::{Answer, SlotNo, UnitNo};
+use std::io::{Read, Write};
 use text::Told;
 
 // What a run keeps from line to line: the tables and the reply, whether the reasons' words are asked for, and how it went so far.
-#[derive(Drop)]
+#[derive(Clone, Copy)]
 struct State {
     units: [u8; 4096],
     slots: [u8; 8192],
@@ -23,34 +24,42 @@ struct State {
 
 // Prints the first n bytes of out as a line. Says whether all was written, this line and those before it: behind one that was not, none
 // is.
-fn print(out: &mut [u8], n: usize, before: bool) -> bool {
+fn print<W: Write>(to: &mut W, out: &mut [u8], n: usize, before: bool) -> bool {
     if before {
         let end = text::put(out, n, b"\n");
-        return io::write_all(STDOUT_FILENO, listing::part(&out[..], 0, end));
+        return to.write_all(listing::part(&out[..], 0, end)).is_ok();
     }
     false
 }
 
 // The line of n bytes of out is printed: was what it answers read?
-fn printed(mut state: State, out: &mut [u8], n: usize, read: bool) -> State {
+fn printed<W: Write>(to: &mut W, mut state: State, out: &mut [u8], n: usize, read: bool) -> State {
     let told = state.told;
-    let written = print(out, n, told.written);
+    let written = print(to, out, n, told.written);
     state.told = text::one_more(told, read, written);
     state
 }
 
 // The answer of a call.
-fn answered(state: State, answer: Answer) -> State {
+fn answered<W: Write>(to: &mut W, state: State, answer: Answer) -> State {
     let mut out = [0u8; 8192];
     let reply = state.reply;
     let n = listing::answer_text(&mut out, answer, &reply, state.explain);
-    printed(state, &mut out, n, true)
+    printed(to, state, &mut out, n, true)
 }
 
 // ---- the calls
 
 // Builds a unit record; space starts with the identifier and the two keys.
-fn build(mut state: State, unit: UnitNo, method: u32, tag: u32, keeper: u32, space: &[u8]) -> State
+fn build<W: Write>(
+    to: &mut W,
+    mut state: State,
+    unit: UnitNo,
+    method: u32,
+    tag: u32,
+    keeper: u32,
+    space: &[u8],
+) -> State
     requires { 56 ≤ length space.now }
 {
     let mut identifier = [0u8; 16];
@@ -69,10 +78,17 @@ fn build(mut state: State, unit: UnitNo, method: u32, tag: u32, keeper: u32, spa
         keeper,
     );
     state.units = units;
-    answered(state, answer)
+    answered(to, state, answer)
 }
 
-fn open(mut state: State, unit: UnitNo, clock: u64, command: &[u8], token: &[u8]) -> State {
+fn open<W: Write>(
+    to: &mut W,
+    mut state: State,
+    unit: UnitNo,
+    clock: u64,
+    command: &[u8],
+    token: &[u8],
+) -> State {
     let units = state.units;
     let mut slots = state.slots;
     let mut reply = state.reply;
@@ -80,10 +96,10 @@ fn open(mut state: State, unit: UnitNo, clock: u64, command: &[u8], token: &[u8]
     state.slots = slots;
     state.reply = reply;
     let answer = made.answer;
-    answered(state, answer)
+    answered(to, state, answer)
 }
 
-fn close(mut state: State, slot: SlotNo, clock: u64, list: &[u8]) -> State {
+fn close<W: Write>(to: &mut W, mut state: State, slot: SlotNo, clock: u64, list: &[u8]) -> State {
     let mut units = state.units;
     let mut slots = state.slots;
     let reply = state.reply;
@@ -91,21 +107,21 @@ fn close(mut state: State, slot: SlotNo, clock: u64, list: &[u8]) -> State {
     state.units = units;
     state.slots = slots;
     let answer = made.answer;
-    answered(state, answer)
+    answered(to, state, answer)
 }
 
-fn abort(mut state: State, slot: SlotNo) -> State {
+fn abort<W: Write>(to: &mut W, mut state: State, slot: SlotNo) -> State {
     let mut slots = state.slots;
     let answer = calls::abort(&mut slots, slot);
     state.slots = slots;
-    answered(state, answer)
+    answered(to, state, answer)
 }
 
-fn reset(mut state: State) -> State {
+fn reset<W: Write>(to: &mut W, mut state: State) -> State {
     let mut slots = state.slots;
     let answer = calls::reset(&mut slots);
     state.slots = slots;
-    answered(state, answer)
+    answered(to, state, answer)
 }
 
 // Damage: puts the bytes into a table, where they end within it. Nothing is printed for it.
@@ -127,35 +143,35 @@ fn poke(mut state: State, table: Table, at: usize, bytes: &[u8]) -> State {
 // ---- the lines
 
 // The digests of the three buffers.
-fn digests(state: State) -> State {
+fn digests<W: Write>(to: &mut W, state: State) -> State {
     let mut out = [0u8; 8192];
     let units = state.units;
     let slots = state.slots;
     let reply = state.reply;
     let n = listing::state_text(&mut out, &units, &slots, &reply);
-    printed(state, &mut out, n, true)
+    printed(to, state, &mut out, n, true)
 }
 
-fn show_unit(state: State, unit: UnitNo) -> State {
+fn show_unit<W: Write>(to: &mut W, state: State, unit: UnitNo) -> State {
     let mut out = [0u8; 8192];
     let units = state.units;
     let n = show::put_unit(&mut out, 0, &units, unit);
-    printed(state, &mut out, n, true)
+    printed(to, state, &mut out, n, true)
 }
 
-fn show_slot(state: State, slot: SlotNo) -> State {
+fn show_slot<W: Write>(to: &mut W, state: State, slot: SlotNo) -> State {
     let mut out = [0u8; 8192];
     let slots = state.slots;
     let n = show::put_slot(&mut out, 0, &slots, slot);
-    printed(state, &mut out, n, true)
+    printed(to, state, &mut out, n, true)
 }
 
-fn show_all(state: State) -> State {
+fn show_all<W: Write>(to: &mut W, state: State) -> State {
     let mut out = [0u8; 8192];
     let units = state.units;
     let slots = state.slots;
     let n = show::put_all(&mut out, 0, &units, &slots);
-    printed(state, &mut out, n, true)
+    printed(to, state, &mut out, n, true)
 }
 
 fn explain(mut state: State, on: bool) -> State {
@@ -164,14 +180,14 @@ fn explain(mut state: State, on: bool) -> State {
 }
 
 // Line n can't be read.
-fn unread(state: State, n: u64, word: u32, fault: Fault) -> State {
+fn unread<W: Write>(to: &mut W, state: State, n: u64, word: u32, fault: Fault) -> State {
     let mut out = [0u8; 8192];
     let end = listing::fault_text(&mut out, n, word, fault);
-    printed(state, &mut out, end, false)
+    printed(to, state, &mut out, end, false)
 }
 
 // Does what line n asks for; the byte strings of the call are in space.
-fn obey(state: State, call: Call, n: u64, space: &[u8]) -> State
+fn obey<W: Write>(to: &mut W, state: State, call: Call, n: u64, space: &[u8]) -> State
     requires { 56 ≤ length space.now }
 {
     match call {
@@ -181,13 +197,14 @@ fn obey(state: State, call: Call, n: u64, space: &[u8]) -> State
             method,
             tag,
             keeper,
-        } => build(state, unit, method, tag, keeper, space),
+        } => build(to, state, unit, method, tag, keeper, space),
         Call::Open {
             unit,
             clock,
             command,
             token,
         } => open(
+            to,
             state,
             unit,
             clock,
@@ -195,19 +212,19 @@ fn obey(state: State, call: Call, n: u64, space: &[u8]) -> State
             listing::part(space, command, token),
         ),
         Call::Close { slot, clock, list } => {
-            close(state, slot, clock, listing::part(space, 0, list))
+            close(to, state, slot, clock, listing::part(space, 0, list))
         }
-        Call::Abort(slot) => abort(state, slot),
-        Call::Reset => reset(state),
+        Call::Abort(slot) => abort(to, state, slot),
+        Call::Reset => reset(to, state),
         Call::Poke { table, at, bytes } => {
             poke(state, table, at, listing::part(space, 0, bytes))
         }
-        Call::State => digests(state),
-        Call::ShowUnit(unit) => show_unit(state, unit),
-        Call::ShowSlot(slot) => show_slot(state, slot),
-        Call::ShowAll => show_all(state),
+        Call::State => digests(to, state),
+        Call::ShowUnit(unit) => show_unit(to, state, unit),
+        Call::ShowSlot(slot) => show_slot(to, state, slot),
+        Call::ShowAll => show_all(to, state),
         Call::Explain(on) => explain(state, on),
-        Call::Wrong { fault, word } => unread(state, n, word, fault),
+        Call::Wrong { fault, word } => unread(to, state, n, word, fault),
     }
 }
 
@@ -224,10 +241,10 @@ fn call_of(line: &[u8], used: usize, space: &mut [u8]) -> Call {
 }
 
 // Obeys line n, which has `used` bytes.
-fn obey_line(state: State, line: &[u8], used: usize, n: u64) -> State {
+fn obey_line<W: Write>(to: &mut W, state: State, line: &[u8], used: usize, n: u64) -> State {
     let mut space = [0u8; 4096];
     let call = call_of(line, used, &mut space);
-    obey(state, call, n, &space)
+    obey(to, state, call, n, &space)
 }
 
 // ---- the listing
@@ -261,24 +278,36 @@ fn at_start() -> State {
     }
 }
 
-// Obeys every line of standard input, and says how it went.
-fn run(line: &mut [u8], chunk: &mut [u8]) {
+// Obeys every line of `from`, the standard input, answers to `to`, the standard output, and says to `errors` how it went.
+fn run<R: Read, W: Write, E: Write>(
+    from: &mut R,
+    to: &mut W,
+    errors: &mut E,
+    line: &mut [u8],
+    chunk: &mut [u8],
+) {
     let mut input = text::at_start();
     let mut state = at_start();
     let mut n = 0;
     while 0 < input.left {
-        let next = text::next_line(line, chunk, input);
+        let next = text::next_line(from, line, chunk, input);
         input = next.input;
         if next.found {
             n = text::counted(n);
-            state = obey_line(state, line, next.used, n);
+            state = obey_line(to, state, line, next.used, n);
         }
     }
-    text::report(b"replay", input.failed, state.told);
+    text::report(errors, b"replay", input.failed, state.told);
 }
 
-fn main() {
+fn main(rt: HostRuntime) {
     let mut line = [0u8; 4096];
-    let mut chunk = io::buffer();
-    run(&mut line, &mut chunk);
+    let mut chunk = [0u8; 4096];
+    run(
+        &mut rt.stdin(),
+        &mut rt.stdout(),
+        &mut rt.stderr(),
+        &mut line,
+        &mut chunk,
+    );
 }

@@ -1,3 +1,2 @@
--- What the crate's contracts cite: Parts holds the meanings, PartLaws laws of them.
+-- What the crate's contracts cite: the meanings.
 pub mod Parts
-pub mod PartLaws

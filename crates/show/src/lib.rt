@@ -1,6 +1,7 @@
 // Records in plain lines: every field by its name, and of an unsound record which part of soundness fails first. The key fields are
 // never shown, only whether they are zero. docs/MANUAL.md has the lines.
 #![tactic(auto)]
+
 mod fields;
 mod parts;
 mod slot;
@@ -13,7 +14,7 @@ use text::put;
 pub use unit::put_unit;
 
 // The part of a unit's record. Nothing: it is sound.
-#[derive(Drop)]
+#[derive(Clone, Copy)]
 pub enum UnitPart {
     Nothing,
     Check,
@@ -28,7 +29,7 @@ pub enum UnitPart {
 }
 
 // The part of a slot's record.
-#[derive(Drop)]
+#[derive(Clone, Copy)]
 pub enum SlotPart {
     Nothing,
     Check,

@@ -1,6 +1,6 @@
 -- Decimal numbers: what digits say, and a number's digits.
 use Rattle.std.specs.Prelude.{◌≡◌, List, ℕ, zero, suc, ◌+◌, ◌*◌, get_or}
-use Rattle.io.specs.Digits.{last_digits, IsDigitCount}
+use Rattle.text.specs.Digits.{last_digits, IsDigitCount}
 use Rattle.text.specs.Place.{place_behind, with_text}
 use Rattle.text.specs.Hex.{value}
 

@@ -1,5 +1,5 @@
 -- Hex digits: the value of one, bytes as digits, and digits as bytes.
-use Rattle.std.specs.Prelude.{Bool, true, false, not, List, [], ◌∷◌, ◌++◌, ℕ, zero, suc, ◌+◌, ◌*◌, ◌-◌, ◌/◌, ◌%◌, eqb, leb, ltb, length, get_or}
+use Rattle.std.specs.Prelude.{Bool, true, not, List, [], ◌∷◌, ◌++◌, ℕ, zero, suc, ◌+◌, ◌*◌, ◌-◌, ◌/◌, ◌%◌, eqb, leb, ltb, length, get_or}
 use Rattle.choice.specs.Choice.{both, either, pick}
 use Rattle.text.specs.Place.{bad, place_behind, with_text}
 

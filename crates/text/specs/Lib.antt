@@ -1,11 +1,8 @@
--- What the crate's contracts cite: Place, Hex, Decimal, Words and Lists hold the meanings, the others laws of them.
+-- What the crate's contracts cite: the meanings.
 pub mod Place
 pub mod Hex
+pub mod Digits
 pub mod Decimal
 pub mod Words
+pub mod Scan
 pub mod Lists
-pub mod PlaceLaws
-pub mod HexLaws
-pub mod DecimalLaws
-pub mod WordLaws
-pub mod ListLaws

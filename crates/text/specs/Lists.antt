@@ -1,6 +1,6 @@
 -- Lists of texts: one text with a line for each.
 use Rattle.std.specs.Prelude.{List, ℕ, zero, suc, ◌+◌, take, drop}
-use Rattle.bytes.specs.Bytes.{index_of}
+use Rattle.text.specs.Scan.{index_of}
 
 -- the line with number k, counted from 0, without its newline (0Ah); no bytes where there is none
 unfoldable pub line_of : ℕ → List ℕ → List ℕ

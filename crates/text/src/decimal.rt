@@ -3,11 +3,12 @@ ghost use Rattle.std.specs.Prelude.{◌≡◌, false, ◌≤◌, leb, length};
 ghost use Rattle.choice.specs.Choice.{pick};
 ghost use Rattle.text.specs.Decimal.{decimal_of, PutDecimal};
 
+use super::digits::decimal;
 use super::hex::value;
 use super::put;
 
 // A decimal number, 0 where it is above its bound, and whether it is within it.
-#[derive(Drop)]
+#[derive(Clone, Copy)]
 pub struct Decimal {
     pub value: u64,
     pub fits: bool,
@@ -52,6 +53,6 @@ pub fn put_decimal(out: &mut [u8], at: usize, x: u64) -> usize
     ensures { PutDecimal x out.old at result out.new }
 {
     let mut digits = [0u8; 20];
-    let k = io::decimal(x, &mut digits);
+    let k = decimal(x, &mut digits);
     put(out, at, &digits[..k])
 }

@@ -2,7 +2,8 @@
 ghost use Rattle.std.specs.Prelude.{◌≡◌, true, ◌+◌, ◌*◌, ◌/◌, ◌<◌, ◌≤◌, length, get_or};
 ghost use Rattle.wire.specs.Bytes.{patch};
 ghost use Rattle.text.specs.Place.{place_behind, with_text};
-ghost use Rattle.text.specs.Hex.{two_digits, digits_of, hex_text, all_digits, bytes_in, is_dash, are_pairs, hex_bytes, unhex_place, unhex_in};
+ghost use Rattle.text.specs.Hex.{two_digits, digits_of, hex_text, all_digits, bytes_in, is_dash, are_pairs};
+ghost use Rattle.text.specs.Hex.{unhex_place, unhex_in};
 ghost use Rattle.text.specs.Hex.{value as Hex·value, digit as Hex·digit};
 
 use super::{BAD, put};

@@ -1,10 +1,13 @@
 // Text that the programs read and write: bytes put into a lent buffer, hex and decimal in both directions, the words of a line, lists of
-// texts, the lines of standard input, and what is said at the end where something failed.
+// texts, the first place of a byte, the lines of standard input, and what is said at the end where something failed.
 #![tactic(auto)]
+
 mod decimal;
+mod digits;
 mod hex;
 mod lines;
 mod lists;
+mod scan;
 mod told;
 mod words;
 
@@ -15,6 +18,7 @@ pub use decimal::{Decimal, number_of, put_decimal};
 pub use hex::{all_digits, digit, hex20, put_digits, put_hex, unhex, value};
 pub use lines::{Input, Line, at_start, next_line};
 pub use lists::line_of;
+pub use scan::find;
 pub use told::{Told, counted, one_more, report};
 pub use words::{without_return, word_at, word_end};
 

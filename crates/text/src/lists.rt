@@ -1,8 +1,10 @@
 // Lists of texts, kept as one text with a line for each: a program that has a text for each of many cases picks a line, in the place of a
 // case of its own for each.
 ghost use Rattle.std.specs.Prelude.{◌≡◌, ◌+◌, ◌≤◌, length, drop};
-ghost use Rattle.bytes.specs.Bytes.{index_of};
+ghost use Rattle.text.specs.Scan.{index_of};
 ghost use Rattle.text.specs.Lists.{line_of};
+
+use super::find;
 
 // The place behind the line that starts at `at`: behind its newline, or the list's end.
 fn behind_line(list: &[u8], at: usize) -> usize
@@ -10,7 +12,7 @@ fn behind_line(list: &[u8], at: usize) -> usize
     ensures upper_bound { result ≤ length list.now }
     ensures list_value { drop result list.now ≡ drop (index_of 0x0a (drop at list.now) + 1) (drop at list.now) }
 {
-    let stop = bytes::scan::find(list, at, list.len(), b'\n');
+    let stop = find(list, at, list.len(), b'\n');
     if stop < list.len() {
         return stop + 1;
     }
@@ -27,6 +29,6 @@ pub fn line_of(list: &[u8], k: usize) -> &[u8]
         at = behind_line(list, at);
         i += 1;
     }
-    let stop = bytes::scan::find(list, at, list.len(), b'\n');
+    let stop = find(list, at, list.len(), b'\n');
     &list[at..stop]
 }

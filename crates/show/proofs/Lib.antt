@@ -1,0 +1,2 @@
+-- laws of the definitions of specs/
+pub mod PartLaws
