@@ -21,6 +21,8 @@ DECLARED = re.compile(rf"(?m)^ *{MARKS}({NAME})(?: \{{[^{{}}\n]*\}})*(?: \([^()\
 CHOSEN = {"authKey": "auth_key_of", "genKey": "gen_key_of", "Asked-for": "AskedFor"}
 # Variables with a hump.
 VARIABLES = {"unitTag": "unit_tag", "unitId": "unit_id"}
+# Fields, which do not meet a definition of their name, in the files of these crates: they keep the plain spelling.
+FIELDS = {"next_auth": ("units", "runs"), "token_length": ("runs",), "data_out": ("runs",)}
 OLD_CRATE, NEW_CRATE = "sha1", "fips180"
 
 
@@ -111,6 +113,9 @@ def main():
     plain = {n for n in names if re.fullmatch(r"\w+", n)}
     for path in found("crates/*/specs/**/*.antt", "crates/*/proofs/**/*.antt", "crates/*/src/**/*.rt"):
         write(path, turned(path, read(path), to, plain))
+    for field, crates in FIELDS.items():
+        for path in found(*(f"crates/{c}/{part}/**/*.antt" for c in crates for part in ("specs", "proofs"))):
+            write(path, re.sub(rf"\b{field}_lem\b", field, read(path)))
     for path in found("crates/*/must-fail/*.edit", "wrong/**/*.edit"):
         write(path, edit(read(path), to, plain))
     for path in found("README.md", "docs/**/*.md"):

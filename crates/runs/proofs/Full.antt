@@ -68,7 +68,7 @@ module _ (units : List ℕ) (ledger : Ledger) (k : Asked) (clock : ℕ) (reply :
       (λ a. pick_cases P (right_token (length k.token)) _ _
       (λ b. pick_cases P (parks units k clock) _ _
       (λ p e. let q = both_true (eqb (reason_at_open units k clock) 0) (data_out (code_of k.command)) p in
-      (record { reply_length = eqb-true (length reply) 512 a; token_length_lem = b; none_refuses = eqb-true _ 0 q.0; data_out_lem = q.1 }, λ i h. all_held 16 0 ledger (full_none (vacant_from 16 0 ledger) e) i (omega arith) (omega arith)))
+      (record { reply_length = eqb-true (length reply) 512 a; token_length = b; none_refuses = eqb-true _ 0 q.0; data_out = q.1 }, λ i h. all_held 16 0 ledger (full_none (vacant_from 16 0 ledger) e) i (omega arith) (omega arith)))
       (λ p e. let z : true ≡ false = sym e ∙ final_not_full (whole units k [] clock).answer (whole_final units k [] clock) in let o : ◌≡◌ {A = ℕ} 0 1 = cc in absurd (omega arith)))
       (λ b e. let o : ◌≡◌ {A = ℕ} 0 1 = cc in absurd (omega arith)))
       (λ a e. let o : ◌≡◌ {A = ℕ} 0 1 = cc in absurd (omega arith))
@@ -76,7 +76,7 @@ module _ (units : List ℕ) (ledger : Ledger) (k : Asked) (clock : ℕ) (reply :
   full_always : Passes units k clock reply → NoneFree ledger → (open_expected units ledger k clock reply).answer ≡ Full
   unfolding open_expected least_vacant
   full_always p taken =
-      rw (eq-eqb (length reply) 512 p.reply_length, p.token_length_lem, eq-eqb (reason_at_open units k clock) 0 p.none_refuses, p.data_out_lem, none_vacant 16 0 ledger (λ j a b. taken j (omega arith)))
+      rw (eq-eqb (length reply) 512 p.reply_length, p.token_length, eq-eqb (reason_at_open units k clock) 0 p.none_refuses, p.data_out, none_vacant 16 0 ledger (λ j a b. taken j (omega arith)))
 
 -- ---- no other call gives it
 

@@ -41,7 +41,7 @@ found_some false x e = let z : ◌≡◌ {A = ℕ} 0 1 = cc in absurd (omega ari
 key_said_lem : (keys : List ℕ) (k : KeySet) → Says k keys → (master change : Bool) (v : ℕ) → v < 16
     → key_found keys master change v ≡ true → key_said k master change v ≡ some (key_used keys master change v)
 unfolding key_found key_used key_said
-key_said_lem keys k says true true v h e = rw (says.pending, says.next_auth_lem) (found_some _ (next_auth_key keys) e)
+key_said_lem keys k says true true v h e = rw (says.pending, says.next_auth) (found_some _ (next_auth_key keys) e)
 key_said_lem keys k says true false v h e = rw says.auth (found_some _ (auth_key_of keys) e)
 key_said_lem keys k says false change v h e = says.working v h ∙ found_some (is_valid v keys) (working_key v keys) e
 

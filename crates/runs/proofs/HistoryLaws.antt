@@ -32,7 +32,7 @@ use Rattle.runs.specs.History.{KeySet, Says, start_keys, version_set, seed_excha
 
 pub says_start : (rec : List ℕ) → Says (start_keys rec) rec
 says_start rec =
-    record { name = refl; auth = refl; generation = refl; next_auth_lem = refl; next_generation = refl; pending = refl; working = λ v h. refl }
+    record { name = refl; auth = refl; generation = refl; next_auth = refl; next_generation = refl; pending = refl; working = λ v h. refl }
 
 -- the working keys, where they are as they were
 same_working : (k : KeySet) (old new : List ℕ) → SameWorking old new → Says k old → (v : ℕ) → v < 16
@@ -51,7 +51,7 @@ module _ (k : KeySet) (rec : List ℕ) (says : Says k rec) (full : length rec �
         name = says.name ∙ sym a.same_identifier;
         auth = says.auth ∙ sym a.same_auth;
         generation = says.generation ∙ sym a.same_generation;
-        next_auth_lem = says.next_auth_lem ∙ sym n.same_next_auth;
+        next_auth = says.next_auth ∙ sym n.same_next_auth;
         next_generation = says.next_generation ∙ sym n.same_next_generation;
         pending = says.pending ∙ ap (λ (x : ℕ). eqb x 1) (sym n.same_step);
         working = same_working k rec (attributes_set m t rec) (attributes_working m t rec full) says;
@@ -65,7 +65,7 @@ module _ (k : KeySet) (rec : List ℕ) (says : Says k rec) (full : length rec �
         name = says.name ∙ sym a.same_identifier;
         auth = says.auth ∙ sym a.same_auth;
         generation = says.generation ∙ sym a.same_generation;
-        next_auth_lem = says.next_auth_lem ∙ sym n.same_next_auth;
+        next_auth = says.next_auth ∙ sym n.same_next_auth;
         next_generation = says.next_generation ∙ sym n.same_next_generation;
         pending = says.pending ∙ ap (λ (x : ℕ). eqb x 1) (sym n.same_step);
         working = λ w h. by_version w h (eqb w v) refl;
@@ -91,7 +91,7 @@ module _ (k : KeySet) (rec : List ℕ) (says : Says k rec) (full : length rec �
         name = says.name ∙ sym a.same_identifier;
         auth = says.auth ∙ sym a.same_auth;
         generation = says.generation ∙ sym a.same_generation;
-        next_auth_lem =
+        next_auth =
             ap₂ (λ (g n : List ℕ). hmac by_sha1 g (last_flipped (value ++ n))) says.generation says.name ∙ sym (exchanged_next_auth value rec full);
         next_generation =
             ap₂ (λ (g n : List ℕ). hmac by_sha1 g (value ++ n)) says.generation says.name ∙ sym (exchanged_next_generation value rec full);
@@ -103,9 +103,9 @@ module _ (k : KeySet) (rec : List ℕ) (says : Says k rec) (full : length rec �
   says_changed =
       record {
         name = says.name ∙ sym (changed_identifier rec full);
-        auth = says.next_auth_lem ∙ sym (changed_auth rec full);
+        auth = says.next_auth ∙ sym (changed_auth rec full);
         generation = says.next_generation ∙ sym (changed_generation rec full);
-        next_auth_lem = sym (changed_next_auth rec full);
+        next_auth = sym (changed_next_auth rec full);
         next_generation = sym (changed_next_generation rec full);
         pending = sym (ap (λ (x : ℕ). eqb x 1) (changed_step rec full));
         working = λ v h. rw (changed_valid rec full v);

@@ -141,7 +141,7 @@ pick_some false x y e = let z : ◌≡◌ {A = ℕ} 0 1 = cc in absurd (omega ar
 said_key : (keys : List ℕ) (k : KeySet) → Says k keys → (master change : Bool) (v : ℕ) → v < 16 → (key : List ℕ)
     → key_said k master change v ≡ some key → (key_found keys master change v ≡ true) × (key_used keys master change v ≡ key)
 unfolding key_found key_used key_said
-said_key keys k says true true v h key e = pick_some _ (next_auth_key keys) key (rw (says.pending, says.next_auth_lem) at e)
+said_key keys k says true true v h key e = pick_some _ (next_auth_key keys) key (rw (says.pending, says.next_auth) at e)
 said_key keys k says true false v h key e = pick_some _ (auth_key_of keys) key (rw says.auth at e)
 said_key keys k says false change v h key e = pick_some (is_valid v keys) (working_key v keys) key (sym (says.working v h) ∙ e)
 

@@ -87,9 +87,9 @@ expected units ledger resets = says (Good 0) []
 -- the command passes: a reply of 512 bytes, a token of 16 to 64, no reason of 1 to 17, and it carries data out
 pub record Passes (units : List ℕ) (k : Asked) (clock : ℕ) (reply : List ℕ) : Type 0 where
   pub reply_length : length reply ≡ 512
-  pub token_length_lem : right_token (length k.token) ≡ true
+  pub token_length : right_token (length k.token) ≡ true
   pub none_refuses : reason_at_open units k clock ≡ 0
-  pub data_out_lem : data_out (code_of k.command) ≡ true
+  pub data_out : data_out (code_of k.command) ≡ true
 
 -- no slot is free, by the ledger
 abbrev pub NoneFree : Ledger → Type 0

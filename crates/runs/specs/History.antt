@@ -23,7 +23,7 @@ pub record KeySet : Type 0 where
   pub name : List ℕ
   pub auth : List ℕ
   pub generation : List ℕ
-  pub next_auth_lem : List ℕ
+  pub next_auth : List ℕ
   pub next_generation : List ℕ
   pub pending : Bool
   -- the valid working key of a version
@@ -36,7 +36,7 @@ start_keys rec =
       name = identifier rec;
       auth = auth_key_of rec;
       generation = gen_key_of rec;
-      next_auth_lem = next_auth_key rec;
+      next_auth = next_auth_key rec;
       next_generation = next_gen_key rec;
       pending = eqb (step rec) 1;
       working = λ v. pick (is_valid v rec) (some (working_key v rec)) none;
@@ -49,7 +49,7 @@ version_set v s k =
       name = k.name;
       auth = k.auth;
       generation = k.generation;
-      next_auth_lem = k.next_auth_lem;
+      next_auth = k.next_auth;
       next_generation = k.next_generation;
       pending = k.pending;
       working = λ w. pick (eqb w v) (some (hmac by_sha1 k.generation s)) (k.working w);
@@ -62,7 +62,7 @@ seed_exchanged value k =
       name = k.name;
       auth = k.auth;
       generation = k.generation;
-      next_auth_lem = hmac by_sha1 k.generation (last_flipped (value ++ k.name));
+      next_auth = hmac by_sha1 k.generation (last_flipped (value ++ k.name));
       next_generation = hmac by_sha1 k.generation (value ++ k.name);
       pending = true;
       working = k.working;
@@ -73,9 +73,9 @@ abbrev pub master_changed : KeySet → KeySet
 master_changed k =
     record {
       name = k.name;
-      auth = k.next_auth_lem;
+      auth = k.next_auth;
       generation = k.next_generation;
-      next_auth_lem = replicate 20 0;
+      next_auth = replicate 20 0;
       next_generation = replicate 20 0;
       pending = false;
       working = λ v. none;
@@ -118,7 +118,7 @@ NoneSets units u v (x ∷ xs) = (sets_version units u v x ≡ false) × NoneSets
 unfoldable pub key_said : KeySet → Bool → Bool → ℕ → Option (List ℕ)
 key_said k master change v =
     pick master
-    (pick (both (eqb v 0) (pick change k.pending true)) (some (pick change k.next_auth_lem k.auth)) none)
+    (pick (both (eqb v 0) (pick change k.pending true)) (some (pick change k.next_auth k.auth)) none)
     (k.working v)
 
 abbrev pub key_for : KeySet → List ℕ → Option (List ℕ)
@@ -135,7 +135,7 @@ pub record Says (k : KeySet) (rec : List ℕ) : Type 0 where
   pub name : k.name ≡ identifier rec
   pub auth : k.auth ≡ auth_key_of rec
   pub generation : k.generation ≡ gen_key_of rec
-  pub next_auth_lem : k.next_auth_lem ≡ next_auth_key rec
+  pub next_auth : k.next_auth ≡ next_auth_key rec
   pub next_generation : k.next_generation ≡ next_gen_key rec
   pub pending : k.pending ≡ eqb (step rec) 1
   pub working : (v : ℕ) → v < 16 → k.working v ≡ pick (is_valid v rec) (some (working_key v rec)) none

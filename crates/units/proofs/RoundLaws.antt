@@ -35,7 +35,7 @@ pub record Fit (f : Fields) : Type 0 where
   pub name_length : length f.name ≡ 16
   pub auth_length : length f.auth ≡ 20
   pub generation_length : length f.generation ≡ 20
-  pub next_auth_length : length f.next_auth_lem ≡ 20
+  pub next_auth_length : length f.next_auth ≡ 20
   pub next_generation_length : length f.next_generation ≡ 20
   pub working_length : length f.working ≡ 320
   pub keeper_fits : f.keeper < 65536
@@ -51,7 +51,7 @@ record Pieces (f : Fields) (l : List ℕ) : Type 0 where
   name_bytes : part 16 16 l ≡ f.name
   auth_bytes : part 32 20 l ≡ f.auth
   generation_bytes : part 52 20 l ≡ f.generation
-  next_auth_bytes : part 72 20 l ≡ f.next_auth_lem
+  next_auth_bytes : part 72 20 l ≡ f.next_auth
   next_generation_bytes : part 92 20 l ≡ f.next_generation
   working_bytes : part 112 320 l ≡ f.working
   keeper_bytes : part 432 2 l ≡ bytes_of 2 f.keeper
@@ -103,7 +103,7 @@ module _ (f : Fields) (fit : Fit f) where
       let p₆ = part_next 16 16 l f.name _ z fit.name_length p₅.1 in
       let p₇ = part_next 32 20 l f.auth _ z fit.auth_length p₆.1 in
       let p₈ = part_next 52 20 l f.generation _ z fit.generation_length p₇.1 in
-      let p₉ = part_next 72 20 l f.next_auth_lem _ z fit.next_auth_length p₈.1 in
+      let p₉ = part_next 72 20 l f.next_auth _ z fit.next_auth_length p₈.1 in
       let p₁₀ = part_next 92 20 l f.next_generation _ z fit.next_generation_length p₉.1 in
       let p₁₁ = part_next 112 320 l f.working _ z fit.working_length p₁₀.1 in
       let field : List ℕ = bytes_of 2 f.keeper in

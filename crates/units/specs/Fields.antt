@@ -15,7 +15,7 @@ pub record Fields : Type 0 where
   pub name : List ℕ
   pub auth : List ℕ
   pub generation : List ℕ
-  pub next_auth_lem : List ℕ
+  pub next_auth : List ℕ
   pub next_generation : List ℕ
   -- sixteen keys of 20 bytes, one behind another
   pub working : List ℕ
@@ -33,7 +33,7 @@ fields_of l =
       name = identifier l;
       auth = auth_key_of l;
       generation = gen_key_of l;
-      next_auth_lem = next_auth_key l;
+      next_auth = next_auth_key l;
       next_generation = next_gen_key l;
       working = part 112 320 l;
       keeper = keeper_field l;
@@ -43,7 +43,7 @@ fields_of l =
 unfoldable pub used_body : Fields → List ℕ
 used_body f =
     bytes_of 2 1 ++ (bytes_of 2 f.number ++ (bytes_of 2 f.method_number ++ (bytes_of 2 f.valid_mask ++ (bytes_of 4 f.tag ++
-    (bytes_of 4 f.step_number ++ (f.name ++ (f.auth ++ (f.generation ++ (f.next_auth_lem ++ (f.next_generation ++ (f.working ++
+    (bytes_of 4 f.step_number ++ (f.name ++ (f.auth ++ (f.generation ++ (f.next_auth ++ (f.next_generation ++ (f.working ++
     bytes_of 2 f.keeper)))))))))))
 
 unfoldable pub used_record : Fields → List ℕ
@@ -65,7 +65,7 @@ built u m t id auth gen k =
       name = id;
       auth = own_key k auth;
       generation = own_key k gen;
-      next_auth_lem = replicate 20 0;
+      next_auth = replicate 20 0;
       next_generation = replicate 20 0;
       working = replicate 320 0;
       keeper = k;
