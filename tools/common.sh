@@ -57,7 +57,7 @@ alone() {
 
 # prove NAME [say]: has target/bin/NAME made from the sources as they are: what has changed since it was last proved is proved again, and
 # told on standard error. Where nothing has changed that takes a second, and is told only to who wants it said. `rt run` proves and builds
-# the program and runs it, here on no input.
+# the program and runs it, here on no input; cpu=x86-64 is for any such processor, where by itself it builds for x86-64-v2.
 prove() {
     local name=$1 built=$root/crates/$1/out/$1
     if ! command -v rt >/dev/null; then
@@ -67,7 +67,7 @@ prove() {
     fi
     mkdir -p "$root/target/bin"
     other_kit >&2
-    (cd "$root/crates/$name" && alone rt run 2>&1 >/dev/null </dev/null) | tee "$root/target/prove.log" | told "$name" "${2:-}" >&2
+    (cd "$root/crates/$name" && alone rt run --cpu=x86-64 2>&1 >/dev/null </dev/null) | tee "$root/target/prove.log" | told "$name" "${2:-}" >&2
     if [ "${PIPESTATUS[0]}" -ne 0 ]; then
         grep -E 'error|: not proved|: no proof' "$root/target/prove.log" | head -n 20 >&2
         stop "$name is not proved: target/prove.log has all that was said"
