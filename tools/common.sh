@@ -26,7 +26,7 @@ other_kit() {
     echo "    not of the code, and what passes has passed with this kit alone."
 }
 
-# told NAME SAY: of what rt run says, how it goes: a line for each crate that is proved anew, and a word ahead where that takes a while.
+# told NAME: of what rt run says, how it goes: a line for each crate that is proved anew, and a word ahead where that takes a while.
 told() {
     local line crate='' made='' ended=0
     while :; do
@@ -46,7 +46,6 @@ told() {
         'fn '*': not proved'* | 'fn '*': no proof'*) echo "$line" ;;
         esac
     done
-    [ -n "$made" ] || [ -z "$2" ] || echo "$1 is proved already: nothing has changed since"
 }
 
 # alone COMMAND..: one at a time in this tree, since two that prove at once take each other's marks of what is proved away.
@@ -55,25 +54,35 @@ alone() {
     if command -v flock >/dev/null; then flock "$root/target/lock" "$@"; else "$@"; fi
 }
 
+# sources: a sum over the kit and all that is proved, by which what was built tells whether it is that of the sources as they are.
+sources() {
+    (cd "$root" && { rt version; cat crates.txt; find crates/*/src crates/*/specs crates/*/proofs -type f -exec sha256sum {} + | sort; } | sha256sum)
+}
+
 # prove NAME [say]: has target/bin/NAME made from the sources as they are: what has changed since it was last proved is proved again, and
 # told on standard error. Where nothing has changed that takes a second, and is told only to who wants it said. `rt run` proves and builds
 # the program and runs it, here on no input; cpu=x86-64 is for any such processor, where by itself it builds for x86-64-v2.
 prove() {
-    local name=$1 built=$root/crates/$1/out/$1
+    local name=$1 bin=$root/target/bin present
     if ! command -v rt >/dev/null; then
-        [ -x "$root/target/bin/$name" ] || stop "target/bin/$name is not built, and there is no rt here: the Rattle kit is not installed"
+        [ -x "$bin/$name" ] || stop "target/bin/$name is not built, and there is no rt here: the Rattle kit is not installed"
         echo "$me: there is no rt here: target/bin/$name runs as it was built, whatever has changed since" >&2
         return
     fi
-    mkdir -p "$root/target/bin"
+    mkdir -p "$bin"
     other_kit >&2
-    (cd "$root/crates/$name" && alone rt run --cpu=x86-64 2>&1 >/dev/null </dev/null) | tee "$root/target/prove.log" | told "$name" "${2:-}" >&2
+    present=$(sources)
+    if [ -x "$bin/$name" ] && [ "$(cat "$bin/$name.made-from" 2>/dev/null)" = "$present" ]; then
+        [ -z "${2:-}" ] || echo "$name is proved already: nothing has changed since" >&2
+        return
+    fi
+    (cd "$root/crates/$name" && alone rt run --cpu=x86-64 2>&1 >/dev/null </dev/null) | tee "$root/target/prove.log" | told "$name" >&2
     if [ "${PIPESTATUS[0]}" -ne 0 ]; then
         grep -E 'error|: not proved|: no proof' "$root/target/prove.log" | head -n 20 >&2
         stop "$name is not proved: target/prove.log has all that was said"
     fi
-    cmp -s "$built" "$root/target/bin/$name" && return
-    cp "$built" "$root/target/bin/.$name" && mv "$root/target/bin/.$name" "$root/target/bin/$name" || stop "target/bin/$name can't be written"
+    cp "$root/crates/$name/out/$name" "$bin/.$name" && mv "$bin/.$name" "$bin/$name" && echo "$present" >"$bin/$name.made-from" ||
+        stop "target/bin/$name can't be written"
 }
 
 # one ARGUMENT..: a script takes one file at most.
