@@ -21,7 +21,8 @@ DECLARED = re.compile(rf"(?m)^ *{MARKS}({NAME})(?: \{{[^{{}}\n]*\}})*(?: \([^()\
 CHOSEN = {"authKey": "auth_key_of", "genKey": "gen_key_of", "Asked-for": "AskedFor"}
 # Variables with a hump.
 VARIABLES = {"unitTag": "unit_tag", "unitId": "unit_id"}
-# Fields, which do not meet a definition of their name, in the files of these crates: they keep the plain spelling.
+# Fields of records in these crates keep the plain spelling, though a definition that stands elsewhere has it too: a field is named behind
+# a dot or in its record, where no definition is.
 FIELDS = {"next_auth": ("units", "runs"), "token_length": ("runs",), "data_out": ("runs",)}
 OLD_CRATE, NEW_CRATE = "sha1", "fips180"
 
@@ -118,6 +119,9 @@ def main():
             write(path, re.sub(rf"\b{field}_lem\b", field, read(path)))
     for path in found("crates/*/must-fail/*.edit", "wrong/**/*.edit"):
         write(path, edit(read(path), to, plain))
+    for field, crates in FIELDS.items():
+        for path in found(*(f"{place}/*.edit" for c in crates for place in (f"crates/{c}/must-fail", f"wrong/{c}"))):
+            write(path, re.sub(rf"\b{field}_lem\b", field, read(path)))
     for path in found("README.md", "docs/**/*.md"):
         write(path, in_words(read(path), to, plain).replace(f"crates/{OLD_CRATE}", f"crates/{NEW_CRATE}"))
     lines = [re.sub(rf"\b{OLD_CRATE}\b", NEW_CRATE, l) for l in read("crates.txt").split("\n")]
