@@ -6,9 +6,9 @@ CALLS = 1000000
 
 help:
 	@echo 'What there is to make, and how long it takes on two cores. What was proved before and has not changed is not proved again,'
-	@echo 'but by make test; the first time, demo and replay take some seven minutes more, embed and lib some five.'
+	@echo 'in this tree; the first time, demo and replay, embed and lib take some minutes more.'
 	@echo
-	@echo '  make test                    the gate: all from nothing, wrong programs too     twenty to twenty-five minutes'
+	@echo '  make test                    the gate: every proof, wrong programs too          up to half an hour'
 	@echo '  make check [CRATE=calls]     proves one crate and those that it uses, or all    up to two minutes a crate'
 	@echo '  make demo [IN=FILE]          a listing of calls, the answers between its lines  a second'
 	@echo '  make replay IN=FILE          the answers alone                                  a second'
