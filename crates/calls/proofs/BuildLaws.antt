@@ -81,6 +81,21 @@ module _ (units : List ℕ) (u m t : ℕ) (id auth gen : List ℕ) (k : ℕ) whe
   unfolding build_out
   build_unit e h = rw (eq-eqb (length units) 4096 e, lt-leb u 7 h)
 
+  -- the tests in one
+  pub high_unbuilt : 7 < u → false ≡ both (leb u 7) (both (leb m 1) (right_keeper units u k))
+  high_unbuilt h = rw (lt-leb u 7 h)
+
+  pub build_barred : length units ≡ 4096 → false ≡ both (leb u 7) (both (leb m 1) (right_keeper units u k))
+      → leaves H5 units ≡ build_out units u m t id auth gen k
+  unfolding build_out
+  build_barred e f = rw (eq-eqb (length units) 4096 e, ← f)
+
+  pub build_done : length units ≡ 4096 → true ≡ both (leb u 7) (both (leb m 1) (right_keeper units u k))
+      → (x : List ℕ) → x ≡ patch units (u * 512) (used_record (built u m t id auth gen k))
+      → leaves (Good 0) x ≡ build_out units u m t id auth gen k
+  unfolding build_out
+  build_done e f x q = rw (eq-eqb (length units) 4096 e, ← f, q)
+
   pub build_method : length units ≡ 4096 → u ≤ 7 → 1 < m → leaves H5 units ≡ build_out units u m t id auth gen k
   unfolding build_out
   build_method e h l = rw (eq-eqb (length units) 4096 e, le-leb u 7 h, lt-leb m 1 l)

@@ -5,8 +5,7 @@ use Rattle.wire.specs.Bytes.{patch}
 use Rattle.model.specs.Codes.{data_out}
 use Rattle.model.specs.declared.Answer.TheVariants.{Parked, Full, H1, H2}
 use Rattle.slots.specs.Slot.{right_token, lowest_free, parked}
-use Rattle.slots.specs.declared.Found.{Found}
-use Rattle.slots.specs.declared.Found.TheVariants.{At, Nothing}
+use Rattle.std.specs.Prelude.{Option, Some, None}
 use Rattle.judge.specs.Command.{code_of}
 use Rattle.judge.specs.Seen.{seen}
 use Rattle.judge.specs.Judgement.{open_reason}
@@ -22,9 +21,9 @@ abbrev pub parks : List ℕ → Asked → ℕ → Bool
 parks units k clock = both (eqb (reason_at_open units k clock) 0) (data_out (code_of k.command))
 
 -- in the lowest sound free slot, or answers A4
-abbrev pub parked_in : List ℕ → Asked → Found → TableOutcome
-parked_in slots k (At s) = leaves (Parked s) (parked s.0 k.unit k.command k.token slots)
-parked_in slots k Nothing = leaves Full slots
+abbrev pub parked_in : List ℕ → Asked → Option ℕ → TableOutcome
+parked_in slots k (Some s) = leaves (Parked (record { 0 = s })) (parked s k.unit k.command k.token slots)
+parked_in slots k None = leaves Full slots
 
 -- any other command is answered at once; it has no data
 abbrev pub answered_at_open : List ℕ → Asked → ℕ → Whole

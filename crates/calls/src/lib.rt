@@ -4,99 +4,86 @@
 mod closing;
 mod opening;
 
-ghost use Rattle.std.specs.Prelude.{◌≡◌, length};
+ghost use Rattle.std.specs.Prelude.{◌≡◌, leb, is_some, IfSome};
+ghost use Rattle.choice.specs.Choice.{both};
 ghost use Rattle.calls.specs.Outcome.{leaves};
 ghost use Rattle.calls.specs.Build.{right_keeper, build_out};
 ghost use Rattle.calls.specs.Slots.{abort_out, reset_out};
 
 pub use closing::close;
-use closing::is_held;
-use model::{Answer, SlotNo, UnitNo};
+use closing::held;
+pub use model::Build;
+use model::{Answer, SlotNo, Unit, UnitNo};
 pub use opening::{Answered, open};
+use units::UnitTable;
 
 // May the record of a unit have that in its keeper field? Zero, or one more than the number of another unit that keeps keys.
-fn right_keeper(units: &[u8], unit: UnitNo, keeper: u32) -> bool
-    requires { length units.now ≡ 4096 }
-    ensures { result ≡ right_keeper units.now unit.0 keeper }
+#[tactic(auto, using(crate::proofs::BuildLaws::keeper_none, crate::proofs::BuildLaws::keeper_high, crate::proofs::BuildLaws::keeper_itself, crate::proofs::BuildLaws::keeper_other))]
+fn right_keeper(units: &UnitTable, unit: Unit, keeper: u32) -> bool
+    ensures { result ≡ right_keeper units.now unit keeper }
 {
     if keeper == 0 {
         return true;
     }
-    if 8 < keeper {
-        return false;
+    match Unit::new(UnitNo(keeper - 1)) {
+        Some(other) => other != unit && units::keeps_keys(units, other),
+        None => false,
     }
-    let k = keeper - 1;
-    if k == unit.0 {
-        return false;
+}
+
+// The unit that is built, where it may be: its number not above 7, the method not above 1, the keeper one that may be.
+#[tactic(auto, using(crate::proofs::BuildLaws::high_unbuilt))]
+fn buildable(units: &UnitTable, build: Build) -> Option<Unit>
+    ensures there { is_some result ≡ both (leb build.unit.0 7) (both (leb build.method 1) (right_keeper units.now build.unit.0 build.keeper)) }
+    ensures same { IfSome result (λ u. u ≡ build.unit.0) }
+{
+    let unit = Unit::new(build.unit)?;
+    if build.method <= 1 && right_keeper(units, unit, build.keeper) {
+        Some(unit)
+    } else {
+        None
     }
-    units::keeps_keys(units, UnitNo(k))
 }
 
 // Builds a unit record, over whatever stood there: with the keys asked for, or as a sharer of its keeper's, with none.
-pub fn build(
-    units: &mut [u8],
-    unit: UnitNo,
-    method: u32,
-    tag: u32,
-    identifier: &[u8; 16],
-    auth_key: &[u8; 20],
-    gen_key: &[u8; 20],
-    keeper: u32,
-) -> Answer
-    ensures { leaves result units.new ≡ build_out units.old unit.0 method tag identifier.now auth_key.now gen_key.now keeper }
+#[tactic(auto, using(crate::proofs::BuildLaws::build_length, crate::proofs::BuildLaws::build_barred))]
+pub fn build(units: &mut [u8], build: Build) -> Answer
+    ensures { leaves result units.new ≡ build_out units.old build.unit.0 build.method build.tag build.identifier build.auth_key build.gen_key build.keeper }
 {
-    if units.len() != 4096 {
+    let Some(units) = units.as_mut_array() else {
         return Answer::H1;
-    }
-    let u = unit.0;
-    if 7 < u {
+    };
+    let Some(unit) = buildable(units, build) else {
         return Answer::H5;
-    }
-    if 1 < method {
-        return Answer::H5;
-    }
-    if !right_keeper(&units[..], unit, keeper) {
-        return Answer::H5;
-    }
-    let id = *identifier;
-    let auth = *auth_key;
-    let generation = *gen_key;
-    let a = u as usize * 512;
-    let e = a + 512;
-    units::write_built(
-        &mut units[a..e],
-        unit,
-        method,
-        tag,
-        id,
-        auth,
-        generation,
-        keeper,
-    );
+    };
+    let (_, rest) = units.split_at_mut(unit.no().0 as usize * 512);
+    units::write_built(rest.first_chunk_mut().unwrap(), build);
     Answer::Good(0)
 }
 
 // Frees an open slot: its command is given up.
+#[tactic(auto, using(crate::proofs::SlotsLaws::abort_length, crate::proofs::SlotsLaws::abort_not, crate::proofs::SlotsLaws::abort_good))]
 pub fn abort(slots: &mut [u8], slot: SlotNo) -> Answer
     ensures { leaves result slots.new ≡ abort_out slots.old slot.0 }
 {
-    if slots.len() != 8192 {
+    let Some(slots) = slots.as_mut_array() else {
         return Answer::H1;
-    }
-    if is_held(&slots[..], slot) {
-        slots::free(slots, slot);
-        return Answer::Good(0);
-    }
-    Answer::H3
+    };
+    let Some(slot) = held(slots, slot) else {
+        return Answer::H3;
+    };
+    slots::free(slots, slot);
+    Answer::Good(0)
 }
 
 // Frees every slot, unsound ones too.
+#[tactic(auto, using(crate::proofs::SlotsLaws::reset_length, crate::proofs::SlotsLaws::reset_good))]
 pub fn reset(slots: &mut [u8]) -> Answer
     ensures { leaves result slots.new ≡ reset_out slots.old }
 {
-    if slots.len() != 8192 {
+    let Some(slots) = slots.as_mut_array() else {
         return Answer::H1;
-    }
+    };
     slots::free_all(slots);
     Answer::Good(0)
 }

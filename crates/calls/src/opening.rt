@@ -1,98 +1,85 @@
 // Open: a command is judged, and then run by medium or crypto block, replied here, or parked until its data come.
-ghost use Rattle.std.specs.Prelude.{◌≡◌, false, [], ◌≤◌, ◌<◌, eqb, length};
+ghost use Rattle.std.specs.Prelude.{◌≡◌, false, [], ◌≤◌, eqb, length};
 ghost use Rattle.units.specs.Unit.{unit_state};
 ghost use Rattle.units.specs.declared.UnitState.TheVariants.{Used};
-ghost use Rattle.slots.specs.Slot.{right_token, lowest_free};
-ghost use Rattle.judge.specs.Command.{code_of, facts_of};
+ghost use Rattle.slots.specs.Slot.{lowest_free};
+ghost use Rattle.judge.specs.Command.{code_of};
 ghost use Rattle.judge.specs.Seen.{seen};
-ghost use Rattle.calls.specs.Outcome.{leaves, lent, tables, gives, right_lengths};
+ghost use Rattle.calls.specs.Outcome.{leaves, lent, tables, gives};
 ghost use Rattle.calls.specs.Whole.{asked, is_replied, passed};
 ghost use Rattle.calls.specs.Open.{parked_in, judged_out, open_out};
 ghost use Rattle.calls.specs.Parts.{on_reply};
 
-use judge::Facts;
-use model::{Answer, UnitNo};
-use slots::Found;
+use judge::Command;
+use model::{Answer, Unit, UnitNo};
+use seal::Record;
+use slots::SlotTable;
+use units::{Records, UnitTable};
 
-// The answer of an open or a close.
+// The answer of an open or a close: a struct, so that what may come to go with it changes no caller (docs/DECISIONS.md, D25).
 #[derive(Clone, Copy)]
 pub struct Answered {
     pub answer: Answer,
 }
 
-// Are the three lent buffers as long as they must be?
-pub fn right_lengths(units: usize, slots: usize, reply: usize) -> bool
-    ensures { result ≡ right_lengths units slots reply }
-{
-    choice::and(units == 4096, choice::and(slots == 8192, reply == 512))
-}
-
 // Parks a command in the lowest sound free slot, if there is one.
-fn park(slots: &mut [u8], unit: UnitNo, command: &[u8], token: &[u8]) -> Answer
-    requires { (length slots.old ≡ 8192) × (length command.now ≤ 100) × (length token.now ≤ 64) }
+fn park(slots: &mut SlotTable, unit: UnitNo, command: &[u8], token: &[u8]) -> Answer
+    requires { (length command.now ≤ 100) × (length token.now ≤ 64) }
     ensures { leaves result slots.new ≡ parked_in slots.old (asked unit.0 command.now token.now) (lowest_free slots.old) }
 {
-    let found = slots::lowest_free(&slots[..]);
-    match found {
-        Found::At(slot) => {
-            slots::park(slots, slot, unit, command, token);
-            return Answer::Parked(slot);
-        }
-        Found::Nothing => {
-            return Answer::Full;
-        }
-    }
+    let Some(slot) = slots::lowest_free(slots) else {
+        return Answer::Full;
+    };
+    slots::park(slots, slot, unit, command, token);
+    Answer::Parked(slot.no())
 }
 
 // Is it a page that is replied here?
-fn is_replied(command: &[u8], facts: Facts) -> bool
-    requires { facts ≡ facts_of command.now }
+#[tactic(auto, unfolding(crate::specs::Whole::is_replied))]
+fn is_replied(command: &Command) -> bool
     ensures { result ≡ is_replied command.now }
 {
-    choice::and(
-        facts.code == model::PROTOCOL_IN,
-        facts.page != model::SEED_IN,
-    )
+    let facts = command.facts();
+    facts.code == model::PROTOCOL_IN && facts.page != model::SEED_IN
 }
 
 // Answers a command that passed and carries no data out: a page is replied here, the rest is run elsewhere.
-fn answer(reply: &mut [u8], units: &[u8], unit: UnitNo, command: &[u8], facts: Facts) -> Answer
-    requires { (length reply.old ≡ 512) × (length units.now ≡ 4096) × (unit.0 < 8) × (unit_state units.now unit.0 ≡ Used) × (facts ≡ facts_of command.now) × (eqb (code_of command.now) 0xB5 ≡ false) }
-    ensures { leaves result reply.new ≡ on_reply reply.old (passed (seen units.now unit.0) command.now []) }
+fn answer(reply: &mut Record, units: &UnitTable, unit: Unit, command: &Command) -> Answer
+    requires { (unit_state units.now unit ≡ Used) × (eqb (code_of command.now) 0xB5 ≡ false) }
+    ensures { leaves result reply.new ≡ on_reply reply.old (passed (seen units.now unit) command.now []) }
 {
-    if is_replied(command, facts) {
-        let page = facts.page;
-        let own = units::record_of(units, unit);
-        let keys = units::keys_of(units, unit);
-        let count = pages::reply(reply, page, wire::be32(command, 6), own, keys);
-        return Answer::Good(count);
+    if !is_replied(command) {
+        return Answer::Run;
     }
-    Answer::Run
+    let page = command.facts().page;
+    let allocation = wire::number::<4>(command.bytes(), 6) as u32;
+    let Records { own, keys } = units::records_of(units, unit);
+    Answer::Good(pages::reply(reply, page, allocation, own, keys))
 }
 
 // An open with the right lengths.
 fn judge_and_answer(
-    units: &[u8],
-    slots: &mut [u8],
-    reply: &mut [u8],
+    units: &UnitTable,
+    slots: &mut SlotTable,
+    reply: &mut Record,
     unit: UnitNo,
-    command: &[u8],
+    command: &Command,
     token: &[u8],
     clock: u64,
 ) -> Answer
-    requires { (length units.now ≡ 4096) × (length slots.old ≡ 8192) × (length reply.old ≡ 512) × (length token.now ≤ 64) }
+    requires { length token.now ≤ 64 }
     ensures { gives result (lent (tables units.now slots.new) reply.new) ≡ judged_out (lent (tables units.now slots.old) reply.old) (asked unit.0 command.now token.now) clock }
 {
-    let facts = judge::facts_of(command);
-    let code = facts.code;
-    let reason = judge::open_reason(units, unit, command, facts, token, clock);
-    if reason == 0 {
-        if model::data_out(code) {
-            return park(slots, unit, command, token);
+    match judge::open_check(units, unit, command, token, clock) {
+        Err(reason) => Answer::from(reason),
+        Ok(there) => {
+            if model::data_out(command.facts().code) {
+                park(slots, unit, command.bytes(), token)
+            } else {
+                answer(reply, units, there, command)
+            }
         }
-        return answer(reply, units, unit, command, facts);
     }
-    model::refuse(reason)
 }
 
 // Opens a command at a unit.
@@ -107,12 +94,19 @@ pub fn open(
 ) -> Answered
     ensures { gives result.answer (lent (tables units.now slots.new) reply.new) ≡ open_out (lent (tables units.now slots.old) reply.old) (asked unit.0 command.now token.now) clock }
 {
-    if right_lengths(units.len(), slots.len(), reply.len()) {
-        if slots::right_token(token.len()) {
-            let answer = judge_and_answer(units, slots, reply, unit, command, token, clock);
-            return Answered { answer };
-        }
+    let Some(units) = units.as_array() else {
+        return Answered { answer: Answer::H1 };
+    };
+    let Some(slots) = slots.as_mut_array() else {
+        return Answered { answer: Answer::H1 };
+    };
+    let Some(reply) = reply.as_mut_array() else {
+        return Answered { answer: Answer::H1 };
+    };
+    if !slots::right_token(token.len()) {
         return Answered { answer: Answer::H2 };
     }
-    Answered { answer: Answer::H1 }
+    let command = Command::new(command);
+    let answer = judge_and_answer(units, slots, reply, unit, &command, token, clock);
+    Answered { answer }
 }

@@ -1,17 +1,2 @@
-// Both and either of two tests, as functions: straight-line code mirrors a definition made of them.
+// No code. specs/ holds choices by a test, as definitions make them, and their laws.
 #![tactic(auto)]
-
-ghost use Rattle.std.specs.Prelude.{◌≡◌};
-ghost use Rattle.choice.specs.Choice.{both, either};
-
-pub fn and(a: bool, b: bool) -> bool
-    ensures { result ≡ both a b }
-{
-    if a { b } else { false }
-}
-
-pub fn or(a: bool, b: bool) -> bool
-    ensures { result ≡ either a b }
-{
-    if a { true } else { b }
-}

@@ -1,7 +1,7 @@
 -- Laws of a list as it is read: at its end, where no more descriptors may come, and one descriptor followed by a shorter list; and of one
 -- that is read in place, from a byte of the command on.
 use Prim.{Unit}
-use Rattle.std.specs.Prelude.{◌≡◌, List, ℕ, zero, suc, ◌+◌, ◌-◌, ◌≤◌, ◌<◌, eqb, length, take, drop, get_or}
+use Rattle.std.specs.Prelude.{◌≡◌, refl, List, ℕ, zero, suc, ◌+◌, ◌-◌, ◌≤◌, ◌<◌, eqb, length, take, drop, get_or}
 use Rattle.std.proofs.Common.{◌∙◌, sym, ap, ap₂, subst, add-zero, add-one, arith, length-drop, drop-drop, get_or-drop, eqb-true, eq-eqb, ne_eqb, lt-ltb, le-ltb}
 use Rattle.choice.specs.Choice.{pick}
 use Rattle.choice.specs.ChoiceLaws.{pick_holds, pick_cases}
@@ -26,6 +26,22 @@ pub list_more : (n : ℕ) (c : Carried) (l : List ℕ) → body_length l + 2 ≤
     → list_from (suc n) c l ≡ list_from n (one_more c (type_of l) (body_of l)) (behind l)
 unfolding list_from
 list_more n c l k = rw (ne_eqb (length l) 0 (λ z. omega arith), le-ltb (length l) (body_length l + 2) k)
+
+-- what is wrong stays wrong, whatever stands behind
+more_wrong : (type : ℕ) (b : List ℕ) → one_more wrong type b ≡ wrong
+unfolding one_more
+more_wrong type b =
+    pick_holds (λ (c : Carried). c ≡ wrong) (eqb type 0x40) wrong (pick (within 0x41 0x4F type) wrong wrong) refl
+    (pick_holds (λ (c : Carried). c ≡ wrong) (within 0x41 0x4F type) wrong wrong refl refl)
+
+pub list_wrong : (n : ℕ) (l : List ℕ) → list_from n wrong l ≡ wrong
+unfolding list_from
+list_wrong zero l = pick_holds (λ (c : Carried). c ≡ wrong) (is_empty l) wrong wrong refl refl
+list_wrong (suc n) l =
+    let rest : Carried = list_from n (one_more wrong (type_of l) (body_of l)) (behind l) in
+    let still : rest ≡ wrong = ap (λ (c : Carried). list_from n c (behind l)) (more_wrong (type_of l) (body_of l)) ∙ list_wrong n (behind l) in
+    pick_holds (λ (c : Carried). c ≡ wrong) (is_empty l) wrong (pick (is_cut l) wrong rest) refl
+    (pick_holds (λ (c : Carried). c ≡ wrong) (is_cut l) wrong rest refl still)
 
 -- ---- read in place: the list that begins at a byte of the command c
 
@@ -67,6 +83,11 @@ module _ (c : List ℕ) (at n : ℕ) (k : Carried) where
 
   pub full_there : at < length c → n ≡ 0 → wrong ≡ list_from n k (drop at c)
   full_there h z = rw z (sym (list_full k (drop at c) (rw length-drop (omega arith))))
+
+  pub breaks_there : (n ≡ 0 → ⊥) → ((m : ℕ) → wrong ≡ list_from (suc m) k (drop at c)) → wrong ≡ list_from n k (drop at c)
+  breaks_there some step =
+      let q : suc (n - 1) ≡ n = sym (add-one (n - 1)) ∙ omega arith in
+      step (n - 1) ∙ ap (λ (m : ℕ). list_from m k (drop at c)) q
 
   pub goes_on : (n ≡ 0 → ⊥) → (j r : Carried) (next : ℕ) → ((m : ℕ) → list_from m j (drop next c) ≡ list_from (suc m) k (drop at c))
       → r ≡ list_from (n - 1) j (drop next c) → r ≡ list_from n k (drop at c)

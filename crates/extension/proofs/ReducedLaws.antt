@@ -1,12 +1,11 @@
 -- Laws of a reduced command: its length, its CDB, and what it is by the place where the 78 bytes begin.
-use Rattle.std.specs.Prelude.{◌≡◌, refl, Bool, true, false, List, [], ◌++◌, ℕ, ◌+◌, ◌-◌, ◌≤◌, ◌<◌, ltb, length, get_or, take, drop}
+use Rattle.std.specs.Prelude.{◌≡◌, refl, Bool, true, false, Option, None, Some, Result, Ok, Err, List, [], ◌++◌, ℕ, ◌+◌, ◌-◌, ◌≤◌, ◌<◌, ltb, length, get_or, take, drop}
 use Rattle.std.proofs.Common.{◌∙◌, sym, ap, ap₂, arith, length-append, length-take, length-drop, take_at, length-take-le, get_or-take, ltb-true, ltb-false, lt-ltb, le-ltb}
 use Rattle.std.proofs.Math.Nat.{sub-zero}
 use Rattle.wire.specs.Bytes.{part, patch}
 use Rattle.wire.proofs.PatchLaws.{lent_part, patch_join}
 use Rattle.model.specs.Codes.{cdb_len}
-use Rattle.extension.specs.declared.Carrier.{Carrier}
-use Rattle.extension.specs.declared.Carrier.TheVariants.{Nothing, At, Wrong}
+use Rattle.extension.specs.declared.Wrong.{Wrong}
 use Rattle.extension.specs.Extension.{Carried, nothing, body, wrong, is_body, list_from, cdb_of, carried_by, reduces, wrapped_with, reduced}
 use Rattle.extension.specs.Places.{carried_at}
 use Rattle.extension.proofs.ListLaws.{list_carries}
@@ -94,26 +93,48 @@ laid_out room c cdb at one two h fits e f =
     f ∙ ap₂ (λ (l b : List ℕ). patch l cdb b) front (lent_part c at 78)
     ∙ patch_join room 0 (take cdb c) (omega arith) cdb (part at 78 c) (omega arith)
 
+-- the same of what the code copies
+pub laid_parts : (room c : List ℕ) (cdb at : ℕ) (one two : List ℕ) → cdb ≤ length c → cdb + 78 ≤ length room
+    → one ≡ patch room 0 (take cdb c) → two ≡ patch one cdb (take (at + 78 - at) (drop at c))
+    → two ≡ patch room 0 (take cdb c ++ part at 78 c)
+laid_parts room c cdb at one two h fits e f = laid_out room c cdb at one two h fits (e ∙ ap (λ (n : ℕ). patch room 0 (take n c)) (sym (sub-zero cdb))) f
+
 module _ (c : List ℕ) (cdb : ℕ) (is : cdb ≡ cdb_len (get_or c 0 0)) where
   pub short_none : length c < cdb → reduced c ≡ []
   unfolding reduced
   short_none h = rw (carried_short c (rw (← is) h))
 
-  module _ (k : Carrier) (long : cdb ≤ length c) (read : carried_at c k ≡ list_from 4 nothing (drop cdb c)) where
+  pub short_refused : length c < cdb → reduces c ≡ false
+  unfolding reduces
+  short_refused h = rw (carried_short c (rw (← is) h))
+
+  module _ (k : Result (Option ℕ) Wrong) (long : cdb ≤ length c) (read : carried_at c k ≡ list_from 4 nothing (drop cdb c)) where
     found : carried_by c ≡ carried_at c k
     found = carried_long c (rw (← is) long) ∙ ap (λ (n : ℕ). list_from 4 nothing (drop n c)) (sym is) ∙ sym read
 
-    pub nothing_none : k ≡ Nothing → reduced c ≡ []
+    pub nothing_none : k ≡ Ok None → reduced c ≡ []
     unfolding reduced
     nothing_none e = rw (found, e)
 
-    pub wrong_none : k ≡ Wrong → reduced c ≡ []
+    pub wrong_none : (w : Wrong) → k ≡ Err w → reduced c ≡ []
     unfolding reduced
-    wrong_none e = rw (found, e)
+    wrong_none w e = rw (found, e)
 
-    module _ (at : ℕ) (e : k ≡ At at) where
+    pub nothing_refused : k ≡ Ok None → reduces c ≡ false
+    unfolding reduces
+    nothing_refused e = rw (found, e)
+
+    pub wrong_refused : (w : Wrong) → k ≡ Err w → reduces c ≡ false
+    unfolding reduces
+    wrong_refused w e = rw (found, e)
+
+    module _ (at : ℕ) (e : k ≡ Ok (Some at)) where
       there : carried_by c ≡ body (part at 78 c)
       there = found ∙ ap (carried_at c) e
+
+      pub place_reduces : reduces c ≡ true
+      unfolding reduces
+      place_reduces = rw there
 
       pub place_fits : at + 78 ≤ length c
       place_fits =

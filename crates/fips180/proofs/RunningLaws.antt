@@ -1,6 +1,6 @@
 -- Laws of the running state: the three ways in which it takes in a part, and how a message ends.
 use Rattle.std.specs.Prelude.{ℕ, ◌+◌, ◌-◌, ◌*◌, ◌/◌, ◌%◌, ◌^◌, ◌≤◌, ◌<◌, ◌≡◌, List, ◌++◌, length, take, drop}
-use Rattle.std.proofs.Common.{sym, ap, ◌∙◌, subst, append_assoc, arith, length-drop, take-append-drop, take_all, take-take, length-take-le}
+use Rattle.std.proofs.Common.{sym, ap, ◌∙◌, subst, append_assoc, arith, length-drop, take-append-drop, take_all, length-take-le, take-take}
 use Rattle.std.proofs.Math.Seq.{paste}
 use Rattle.std.proofs.lemmas.List.Edits.{take-paste}
 use Rattle.md.specs.Chain.{absorb, Taken}
@@ -20,9 +20,6 @@ boundary t fill room p q = omega arith
 
 count_both : (t room n c : ℕ) → room ≤ n → c ≡ (t + n) % 2 ^ 64 → c ≡ ((t + room) % 2 ^ 64 + (n - room)) % 2 ^ 64
 count_both t room n c h e = omega arith
-
-filled : (total l fill : ℕ) → fill ≡ total % 64 → total ≡ l % 2 ^ 64 → l % 64 ≡ fill
-filled total l fill ef et = omega arith
 
 rest_fits : (n : ℕ) → n - n / 64 * 64 ≡ n % 64
 rest_fits n = omega arith
@@ -78,7 +75,16 @@ module _ (r t : Running) (part : List ℕ) (n : ℕ) (en : n ≡ (r.total + leng
 
 -- ---- the end
 
--- only the bytes of the buffer that the message fixes count
+-- what is left of a message, padded, is absorbed from the state that the message's whole blocks gave
+pub finished : (h v : State) (tail b : List ℕ) (total : ℕ) (m : List ℕ) → length tail ≡ total % 64 → b ≡ tail ++ padding total
+    → v ≡ absorb compressed (length b / 64) h b → Taken compressed initial h tail total m → digest_of v ≡ sha1 m
+unfolding sha1 blocks
+finished h v tail b total m et eb ev k =
+    ap digest_of (ev ∙ ap (λ (x : List ℕ). absorb compressed (length x / 64) h x) eb ∙ absorb_end compressed initial h tail total m k et)
+
+filled : (total l fill : ℕ) → fill ≡ total % 64 → total ≡ l % 2 ^ 64 → l % 64 ≡ fill
+filled total l fill ef et = omega arith
+
 pub buffer_cut : (h : State) (buffer : List ℕ) (total fill : ℕ) (m : List ℕ) → fill ≡ total % 64 → Taken compressed initial h buffer total m
     → Taken compressed initial h (take fill buffer) total m
 buffer_cut h buffer total fill m ef k =
@@ -88,10 +94,3 @@ buffer_cut h buffer total fill m ef k =
       whole = k.whole;
       rest = take-take (length m % 64) fill buffer (omega arith) ∙ k.rest;
     }
-
--- what is left of a message, padded, is absorbed from the state that the message's whole blocks gave
-pub finished : (h v : State) (tail b : List ℕ) (total : ℕ) (m : List ℕ) → length tail ≡ total % 64 → b ≡ tail ++ padding total
-    → v ≡ absorb compressed (length b / 64) h b → Taken compressed initial h tail total m → digest_of v ≡ sha1 m
-unfolding sha1 blocks
-finished h v tail b total m et eb ev k =
-    ap digest_of (ev ∙ ap (λ (x : List ℕ). absorb compressed (length x / 64) h x) eb ∙ absorb_end compressed initial h tail total m k et)

@@ -9,6 +9,7 @@ use Rattle.md.proofs.PaddingLaws.{padded_blocks}
 use Rattle.fips180.specs.declared.block.State.{State}
 use Rattle.fips180.specs.Sha1.{f, K, mixed, W, schedule, turned, round, rounds, plus, compressed, digest_of, blocks, sha1}
 use Rattle.fips180.specs.Begun.{Begun}
+use Rattle.fips180.specs.Twenty.{RoundsBy}
 
 -- ---- the four ranges of t (4.1.1, 4.2.1)
 
@@ -138,6 +139,11 @@ rounds_add : (w : List ℕ) (t n m : ℕ) (s : State) → rounds w t (n + m) s �
 unfolding rounds
 rounds_add w t n zero s = rw add-zero refl
 rounds_add w t n (suc m) s = rw (add-suc, rounds_add w t n m s, add_assoc)
+
+-- what serves a run of rounds serves those within it
+pub rounds_within : (gives : ℕ → ℕ → ℕ → ℕ → Type 0) (k t u a b : ℕ) → RoundsBy gives k t u → t ≤ a → b ≤ u → RoundsBy gives k a b
+unfolding RoundsBy
+rounds_within gives k t u a b r h g = λ i p q. r i (omega arith) (omega arith)
 
 -- a round, with the values that the code has for f t, K t and W t
 pub round_turned : (w : List ℕ) (t : ℕ) (s : State) (fₜ kₜ wₜ : ℕ) → fₜ ≡ f t s.b s.c s.d → kₜ ≡ K t → wₜ ≡ get_or w t 0

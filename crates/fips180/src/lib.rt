@@ -24,115 +24,83 @@ fn whole_blocks(h: State, m: &[u8]) -> State
     ensures { result ≡ absorb compressed (length m.now / 64) h m.now }
 {
     let mut v = h;
-    let mut i = 0;
-    while 64 <= m.len() - i {
-        v = block::compress(v, &m[i..i + 64]);
-        i += 64;
+    let (blocks, _) = m.as_chunks::<64>();
+    for block in blocks {
+        v = block::compress(v, block);
     }
     v
 }
 
-// A hash that has taken in nothing.
-pub fn start() -> Running
-    ensures { Holds result [] }
-{
-    Running {
-        state: State {
-            a: 0x6745_2301,
-            b: 0xefcd_ab89,
-            c: 0x98ba_dcfe,
-            d: 0x1032_5476,
-            e: 0xc3d2_e1f0,
-        },
-        buffer: [0u8; 64],
-        total: 0,
+impl Running {
+    // A hash that has taken in nothing.
+    pub fn new() -> Running
+        ensures { Holds result [] }
+    {
+        Running {
+            state: State {
+                a: 0x6745_2301,
+                b: 0xefcd_ab89,
+                c: 0x98ba_dcfe,
+                d: 0x1032_5476,
+                e: 0xc3d2_e1f0,
+            },
+            buffer: [0u8; 64],
+            total: 0,
+        }
     }
-}
 
-// A running hash whose buffer is empty, after a part: whole blocks are taken from where they lie, and what is left goes into the buffer.
-fn from_boundary(h: State, old: [u8; 64], part: &[u8], total: u64) -> Running
-    ensures { Continued h part.now total result }
-{
-    let state = whole_blocks(h, part);
-    let done = part.len() / 64 * 64;
-    let buffer = md::put(old, 0, &part[done..]);
-    Running {
-        state,
-        buffer,
-        total,
+    // With an empty buffer: whole blocks are taken from where they lie, and what is left goes into the buffer.
+    fn from_boundary(&mut self, part: &[u8])
+        ensures { Continued self.old.state part.now self.old.total self.new }
+    {
+        self.state = whole_blocks(self.state, part);
+        let done = part.len() / 64 * 64;
+        wire::put(&mut self.buffer, 0, &part[done..]);
     }
-}
 
-// The running hash r after one part more.
-fn taken_in(r: Running, part: &[u8]) -> Running
-    ensures { Takes Holds r part.now result }
-{
-    let n = part.len();
-    let fill = (r.total % 64) as usize;
-    let total = words::add64(r.total, n as u64);
-    let state = r.state;
-    let old = r.buffer;
-    if fill == 0 {
-        return from_boundary(state, old, part, total);
+    // Takes in one part more. Every digest goes through here.
+    pub fn feed(&mut self, part: &[u8])
+        ensures { Takes Holds self.old part.now self.new }
+    {
+        let fill = (self.total % 64) as usize;
+        self.total = self.total.wrapping_add(part.len() as u64);
+        if fill == 0 {
+            self.from_boundary(part);
+            return;
+        }
+        let room = 64 - fill;
+        if part.len() < room {
+            wire::put(&mut self.buffer, fill, part);
+            return;
+        }
+        wire::put(&mut self.buffer, fill, &part[..room]);
+        self.state = whole_blocks(self.state, &self.buffer);
+        self.from_boundary(&part[room..]);
     }
-    let room = 64 - fill;
-    if n < room {
-        let buffer = md::put(old, fill, part);
-        return Running {
-            state,
-            buffer,
-            total,
-        };
+
+    // The digest of what was taken in.
+    pub fn finish(&self) -> [u8; 20]
+        ensures { (m : List ℕ) → Holds self.now m → result ≡ sha1 m }
+    {
+        let fill = (self.total % 64) as usize;
+        last(self.state, &self.buffer[..fill], self.total)
     }
-    let filled = md::put(old, fill, &part[..room]);
-    let first = whole_blocks(state, &filled);
-    from_boundary(first, filled, &part[room..], total)
-}
-
-// The running hash, lent, takes in one part more. Every digest goes through here.
-pub fn feed_lent(r: &mut Running, part: &[u8])
-    ensures { Takes Holds r.old part.now r.new }
-{
-    *r = taken_in(*r, part);
-}
-
-// The same with plain parameters, for callers whose proofs then need no walk by hand.
-pub fn feed(r: Running, part: &[u8]) -> Running
-    ensures { Takes Holds r part.now result }
-{
-    let mut t = r;
-    feed_lent(&mut t, part);
-    t
 }
 
 fn digest(h: State) -> [u8; 20]
     ensures { result ≡ digest_of h }
 {
-    [
-        ((h.a >> 24) % 256) as u8,
-        ((h.a >> 16) % 256) as u8,
-        ((h.a >> 8) % 256) as u8,
-        (h.a % 256) as u8,
-        ((h.b >> 24) % 256) as u8,
-        ((h.b >> 16) % 256) as u8,
-        ((h.b >> 8) % 256) as u8,
-        (h.b % 256) as u8,
-        ((h.c >> 24) % 256) as u8,
-        ((h.c >> 16) % 256) as u8,
-        ((h.c >> 8) % 256) as u8,
-        (h.c % 256) as u8,
-        ((h.d >> 24) % 256) as u8,
-        ((h.d >> 16) % 256) as u8,
-        ((h.d >> 8) % 256) as u8,
-        (h.d % 256) as u8,
-        ((h.e >> 24) % 256) as u8,
-        ((h.e >> 16) % 256) as u8,
-        ((h.e >> 8) % 256) as u8,
-        (h.e % 256) as u8,
-    ]
+    let mut d = [0u8; 20];
+    words::store(&mut d, 0, h.a);
+    words::store(&mut d, 4, h.b);
+    words::store(&mut d, 8, h.c);
+    words::store(&mut d, 12, h.d);
+    words::store(&mut d, 16, h.e);
+    d
 }
 
 // The digest of a message of total bytes whose whole blocks took the hash value to h, and whose other bytes are tail.
+#[tactic(auto, using(md::proofs::PaddingLaws::ending_fits))]
 fn last(h: State, tail: &[u8], total: u64) -> [u8; 20]
     requires { length tail.now ≡ total % 64 }
     ensures { (m : List ℕ) → Taken compressed initial h tail.now total m → result ≡ sha1 m }
@@ -142,19 +110,11 @@ fn last(h: State, tail: &[u8], total: u64) -> [u8; 20]
     digest(whole_blocks(h, &b[..n]))
 }
 
-// The digest of what r has taken in.
-pub fn finish(r: Running) -> [u8; 20]
-    ensures { (m : List ℕ) → Holds r m → result ≡ sha1 m }
-{
-    let total = r.total;
-    let fill = (total % 64) as usize;
-    let b = r.buffer;
-    last(r.state, &b[..fill], total)
-}
-
 // The digest of a message.
 pub fn hash(m: &[u8]) -> [u8; 20]
     ensures { result ≡ sha1 m.now }
 {
-    finish(feed(start(), m))
+    let mut r = Running::new();
+    r.feed(m);
+    r.finish()
 }

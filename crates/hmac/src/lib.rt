@@ -6,11 +6,13 @@ ghost use Rattle.md.specs.Parts.{Takes};
 ghost use Rattle.hmac.specs.Hmac.{extended, masked, key_block, hmac, by_sha1};
 ghost use Rattle.hmac.specs.Mac.{MacHolds};
 
+use fips180::Running;
+
 // An HMAC under a key that has taken in a message so far: the hashes of the inner and of the outer pass.
 #[derive(Clone, Copy)]
 pub struct Mac {
-    pub inner: fips180::Running,
-    pub outer: fips180::Running,
+    pub inner: Running,
+    pub outer: Running,
 }
 
 // A key of at most a block, with zeros after it.
@@ -18,7 +20,9 @@ fn extend(key: &[u8]) -> [u8; 64]
     requires { length key.now ≤ 64 }
     ensures { result ≡ extended 64 key.now }
 {
-    md::put([0u8; 64], 0, key)
+    let mut block = [0u8; 64];
+    wire::put(&mut block, 0, key);
+    block
 }
 
 // The key as a block: a longer one is hashed first.
@@ -28,58 +32,54 @@ fn key_block(key: &[u8]) -> [u8; 64]
     if key.len() <= 64 {
         return extend(key);
     }
-    let d = fips180::hash(key);
-    extend(&d)
+    extend(&fips180::hash(key))
 }
 
 // Each byte of the block with pad xored in.
-fn mask(k: [u8; 64], pad: u8) -> [u8; 64]
-    ensures { result ≡ masked pad k }
+fn mask(mut block: [u8; 64], pad: u8) -> [u8; 64]
+    ensures { result ≡ masked pad block }
 {
-    let mut b = k;
-    let mut i = 0;
-    while i < 64 {
-        b[i] = b[i] ^ pad;
-        i += 1;
+    for b in block.iter_mut() {
+        *b ^= pad;
     }
-    b
+    block
 }
 
-// An HMAC under the key that has taken in nothing.
-pub fn start(key: &[u8]) -> Mac
-    ensures { MacHolds key.now result [] }
-{
-    let k = key_block(key);
-    let i = mask(k, 0x36);
-    let o = mask(k, 0x5c);
-    let inner = fips180::feed(fips180::start(), &i);
-    let outer = fips180::feed(fips180::start(), &o);
-    Mac { inner, outer }
-}
+impl Mac {
+    // An HMAC under the key that has taken in nothing.
+    pub fn new(key: &[u8]) -> Mac
+        ensures { MacHolds key.now result [] }
+    {
+        let block = key_block(key);
+        let mut inner = Running::new();
+        inner.feed(&mask(block, 0x36));
+        let mut outer = Running::new();
+        outer.feed(&mask(block, 0x5c));
+        Mac { inner, outer }
+    }
 
-// The running HMAC r after one part more.
-pub fn feed(r: Mac, part: &[u8]) -> Mac
-    ensures { (k : List ℕ) → Takes (MacHolds k) r part.now result }
-{
-    let i = r.inner;
-    let o = r.outer;
-    let inner = fips180::feed(i, part);
-    Mac { inner, outer: o }
-}
+    // Takes in one part more.
+    pub fn feed(&mut self, part: &[u8])
+        ensures { (k : List ℕ) → Takes (MacHolds k) self.old part.now self.new }
+    {
+        self.inner.feed(part);
+    }
 
-// The HMAC of what r has taken in.
-pub fn finish(r: Mac) -> [u8; 20]
-    ensures { (k m : List ℕ) → MacHolds k r m → result ≡ hmac by_sha1 k m }
-{
-    let i = r.inner;
-    let o = r.outer;
-    let d = fips180::finish(i);
-    fips180::finish(fips180::feed(o, &d))
+    // The HMAC of what was taken in.
+    pub fn finish(&self) -> [u8; 20]
+        ensures { (k m : List ℕ) → MacHolds k self.now m → result ≡ hmac by_sha1 k m }
+    {
+        let mut outer = self.outer;
+        outer.feed(&self.inner.finish());
+        outer.finish()
+    }
 }
 
 // The HMAC of a message under a key.
 pub fn hmac_of(key: &[u8], m: &[u8]) -> [u8; 20]
     ensures { result ≡ hmac by_sha1 key.now m.now }
 {
-    finish(feed(start(key), m))
+    let mut mac = Mac::new(key);
+    mac.feed(m);
+    mac.finish()
 }

@@ -28,7 +28,7 @@ use Rattle.judge.proofs.TestLaws.{named, named_append, first_append, first_three
 
 -- ---- every test has a reason
 
-earlier_named : (s : Seen) (c : List ℕ) → named (earlier_tests s c) ≡ true
+pub earlier_named : (s : Seen) (c : List ℕ) → named (earlier_tests s c) ≡ true
 unfolding earlier_tests unit_tests code_tests length_tests
 earlier_named s c = refl
 

@@ -4,3 +4,4 @@ pub mod CheckedLaws
 pub mod FaultLaws
 pub mod JudgementLaws
 pub mod TestLaws
+pub mod OrderLaws

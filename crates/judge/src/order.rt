@@ -1,128 +1,112 @@
-// The judgement of an open in document 01's order: reasons 1 to 17, group by group, the dear checks last.
-ghost use Rattle.std.specs.Prelude.{◌≡◌, true, List, ◌++◌, ℕ, ◌+◌, ◌≤◌, ◌<◌, length};
+// The judgement of an open in document 01's order: reasons 1 to 17, group by group, the dear checks last. Token and clock are handed on as
+// the call is given them: no fact ties one to the other.
+ghost use Rattle.std.specs.Prelude.{◌≡◌, true, List, ◌++◌, ℕ, ◌+◌, ◌≤◌, length, IfOk};
 ghost use Rattle.model.specs.Codes.{cdb_len, legal_len};
-ghost use Rattle.judge.specs.Command.{code_of, facts_of};
+ghost use Rattle.model.specs.Reason.{reason_of};
+ghost use Rattle.judge.specs.Command.{code_of};
 ghost use Rattle.judge.specs.Seen.{seen};
-ghost use Rattle.judge.specs.Judgement.{first, rules_for, guard_tests, earlier_tests, later_tests, open_reason};
-ghost use Rattle.judge.specs.Order.{or_else, wrapped_tests};
+ghost use Rattle.judge.specs.Judgement.{first, rules_for, skips_guard, guard_tests, earlier_tests, later_tests, open_reason};
+ghost use Rattle.judge.specs.Order.{wrapped_tests};
 
-use super::facts::{Facts, is_bare, rules_for};
+use super::command::Command;
 use super::groups::{
-    code_reason, fact_reason, form_reason, length_reason, page_reason, protocol_reason, unit_reason,
+    code_check, fact_check, form_check, length_check, page_check, protocol_check, unit_check,
 };
-use super::keys::key_reason;
-use model::UnitNo;
-
-// The first reason, or the second where the first is none.
-fn or_else(r: u8, s: u8) -> u8
-    ensures { result ≡ or_else r s }
-{
-    if r == 0 { s } else { r }
-}
+use super::keys::key_check;
+use model::{Reason, Unit, UnitNo};
+use units::{Records, UnitTable};
 
 // 7 to 15, of a wrapped command. Nothing is hashed where 7 to 13 refuse.
-fn wrapped_reason(
-    own: &[u8],
-    keys: &[u8],
-    command: &[u8],
-    facts: Facts,
+#[tactic(auto, unfolding(crate::specs::Order::wrapped_tests), using(crate::proofs::OrderLaws::refused, crate::proofs::OrderLaws::passed, crate::proofs::OrderLaws::form_named, crate::proofs::OrderLaws::fact_named, crate::proofs::JudgementLaws::descriptor_fits, crate::proofs::JudgementLaws::descriptor_lent, crate::proofs::JudgementLaws::value_lent))]
+fn wrapped_check(
+    records: Records,
+    command: &Command,
     rules: bool,
     token: &[u8],
     clock: u64,
-) -> u8
-    requires { (length own.now ≡ 512) × (length keys.now ≡ 512) × (cdb_len (code_of command.now) + 78 ≤ length command.now) × (facts ≡ facts_of command.now) × (rules ≡ rules_for own.now command.now) }
-    ensures { result ≡ first (wrapped_tests own.now keys.now command.now token.now clock) }
+) -> Result<(), Reason>
+    requires { (cdb_len (code_of command.now) + 78 ≤ length command.now) × (rules ≡ rules_for records.own.now command.now) }
+    ensures { reason_of result ≡ first (wrapped_tests records.entry.own.now records.entry.keys.now command.now token.now clock) }
 {
-    let code = facts.code;
-    let need = facts.need;
-    let a = model::cdb_len(code) as usize;
+    let Records { own, keys } = records;
+    let facts = command.facts();
+    let bytes = command.bytes();
+    let a = model::cdb_len(facts.code) as usize;
     let e = a + 58;
-    let descriptor = &command[a..e];
-    let form = form_reason(rules, descriptor);
-    let fact = fact_reason(need, own, descriptor, clock);
-    let early = or_else(form, fact);
-    if early == 0 {
-        let value = wire::bytes20(command, e);
-        return key_reason(rules, keys, facts, descriptor, value, token);
-    }
-    early
+    let descriptor = &bytes[a..e];
+    form_check(rules, descriptor)?;
+    fact_check(facts.need, own, descriptor, clock)?;
+    let value = wire::array::<20>(bytes, e);
+    key_check(rules, keys, command, descriptor, value, token)
+}
+
+// Are 6 to 15 skipped? rules says whether CAPKEY rules.
+#[tactic(auto, unfolding(crate::specs::Judgement::skips_guard))]
+fn skips_guard(rules: bool, command: &Command) -> bool
+    ensures { (own : List ℕ) → rules ≡ rules_for own command.now → result ≡ skips_guard own command.now }
+{
+    model::is_open_row(command.facts().need) || (command.is_bare() && !rules)
 }
 
 // 6 to 15.
-fn guard_reason(
-    own: &[u8],
-    keys: &[u8],
-    command: &[u8],
-    facts: Facts,
-    token: &[u8],
-    clock: u64,
-) -> u8
-    requires { (length own.now ≡ 512) × (length keys.now ≡ 512) × (legal_len (code_of command.now) (length command.now) ≡ true) × (facts ≡ facts_of command.now) }
-    ensures { result ≡ first (guard_tests own.now keys.now command.now token.now clock) }
+#[tactic(auto, using(crate::proofs::JudgementLaws::guard_skipped, crate::proofs::JudgementLaws::guard_bare, crate::proofs::JudgementLaws::guard_wrapped, crate::proofs::JudgementLaws::wrapped_length))]
+fn guard_check(records: Records, command: &Command, token: &[u8], clock: u64) -> Result<(), Reason>
+    requires { legal_len (code_of command.now) (length command.now) ≡ true }
+    ensures { reason_of result ≡ first (guard_tests records.entry.own.now records.entry.keys.now command.now token.now clock) }
 {
-    let need = facts.need;
-    let open_row = model::is_open_row(need);
-    let rules = rules_for(own, facts);
-    let bare = is_bare(command, facts);
-    let skips = choice::or(open_row, choice::and(bare, !rules));
-    if skips {
-        return 0;
+    let own = records.own;
+    let rules = command.is_ruled(own);
+    if skips_guard(rules, command) {
+        return Ok(());
     }
-    if bare {
-        return 6;
+    if command.is_bare() {
+        return Err(Reason::NoCapability);
     }
-    wrapped_reason(own, keys, command, facts, rules, token, clock)
+    wrapped_check(records, command, rules, token, clock)
 }
 
-// 1 to 3.
-pub fn earlier_reason(units: &[u8], unit: UnitNo, command: &[u8], facts: Facts) -> u8
-    requires { (length units.now ≡ 4096) × (facts ≡ facts_of command.now) }
-    ensures { result ≡ first (earlier_tests (seen units.now unit.0) command.now) }
+// 1 to 3; the unit, where they pass.
+#[tactic(auto, unfolding(crate::specs::Judgement::earlier_tests), using(crate::proofs::OrderLaws::refused, crate::proofs::OrderLaws::passed, crate::proofs::OrderLaws::unit_named, crate::proofs::OrderLaws::code_named))]
+pub fn earlier_check(units: &UnitTable, unit: UnitNo, command: &Command) -> Result<Unit, Reason>
+    ensures reason { reason_of result ≡ first (earlier_tests (seen units.now unit.0) command.now) }
+    ensures unit { IfOk result (λ u. u ≡ unit.0) }
 {
-    let of_unit = unit_reason(units, unit);
-    let of_code = code_reason(command, facts);
-    let of_length = length_reason(command, facts);
-    or_else(of_unit, or_else(of_code, of_length))
+    let there = unit_check(units, unit)?;
+    code_check(command)?;
+    length_check(command)?;
+    Ok(there)
 }
 
 // 4 and everything after it: a caller that has judged the unit and the code in another way goes on here.
-pub fn later_reason(
-    own: &[u8],
-    keys: &[u8],
-    command: &[u8],
-    facts: Facts,
+#[tactic(auto, unfolding(crate::specs::Judgement::later_tests), using(crate::proofs::OrderLaws::refused, crate::proofs::OrderLaws::passed, crate::proofs::JudgementLaws::protocol_named, crate::proofs::JudgementLaws::guard_named))]
+pub fn later_check(
+    records: Records,
+    command: &Command,
     token: &[u8],
     clock: u64,
-) -> u8
-    requires { (length own.now ≡ 512) × (length keys.now ≡ 512) × (legal_len (code_of command.now) (length command.now) ≡ true) × (facts ≡ facts_of command.now) }
-    ensures { result ≡ first (later_tests own.now keys.now command.now token.now clock) }
+) -> Result<(), Reason>
+    requires { legal_len (code_of command.now) (length command.now) ≡ true }
+    ensures { reason_of result ≡ first (later_tests records.entry.own.now records.entry.keys.now command.now token.now clock) }
 {
-    let protocol = protocol_reason(command, facts);
-    if protocol == 0 {
-        let guard = guard_reason(own, keys, command, facts, token, clock);
-        let page = page_reason(keys, command, facts);
-        return or_else(guard, page);
-    }
-    protocol
+    protocol_check(command)?;
+    let keys = records.keys;
+    guard_check(records, command, token, clock)?;
+    page_check(keys, command)
 }
 
-// The reason that an open refuses for, or 0.
-pub fn open_reason(
-    units: &[u8],
+// Whether an open is refused, and for which reason; the unit, where it passes.
+#[tactic(auto, unfolding(crate::specs::Judgement::open_reason, crate::specs::Judgement::open_tests), using(crate::proofs::OrderLaws::refused, crate::proofs::OrderLaws::passed, crate::proofs::JudgementLaws::earlier_named, crate::proofs::JudgementLaws::earlier_passed))]
+pub fn open_check(
+    units: &UnitTable,
     unit: UnitNo,
-    command: &[u8],
-    facts: Facts,
+    command: &Command,
     token: &[u8],
     clock: u64,
-) -> u8
-    requires { (length units.now ≡ 4096) × (facts ≡ facts_of command.now) }
-    ensures { result ≡ open_reason (seen units.now unit.0) command.now token.now clock }
+) -> Result<Unit, Reason>
+    ensures reason { reason_of result ≡ open_reason (seen units.now unit.0) command.now token.now clock }
+    ensures unit { IfOk result (λ u. u ≡ unit.0) }
 {
-    let earlier = earlier_reason(units, unit, command, facts);
-    if earlier == 0 {
-        let own = units::record_of(units, unit);
-        let keys = units::keys_of(units, unit);
-        return later_reason(own, keys, command, facts, token, clock);
-    }
-    earlier
+    let there = earlier_check(units, unit, command)?;
+    later_check(units::records_of(units, there), command, token, clock)?;
+    Ok(there)
 }

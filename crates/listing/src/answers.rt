@@ -1,183 +1,101 @@
-// What is printed for a line: the text of answers, faults and digests, put together in a lent buffer. Each function puts its text at a
-// place and answers the next, as text::put does.
-use super::reading::Fault;
+// What is printed for a line: the text of answers and digests, put behind what stands in `out`.
+use arrayvec::ArrayString;
 use model::{Answer, Sense};
-use text::{digit, line_of, put, put_decimal, put_hex};
-use wire::least;
+use std::fmt;
+use std::fmt::Write;
+use text::put_hex;
 
-// The words of the reasons 1, 1b, 2 to 4 and 6 to 19, a line each, as docs/MANUAL.md has them.
-const REASONS: [u8; 1186] = *b"\
-    the unit is above 7, or its record sound and unused\n\
-    the unit's record is unsound: damaged; or it shares keys, and its keeper's record is unsound, unused or itself a sharer's\n\
-    the command is empty or its code unknown\n\
-    its length is neither the CDB's nor 78 bytes more\n\
-    A2h, B5h: protocol byte 1 not 07h, page in bytes 2-3 unlisted, or bit 7 of byte 4 set\n\
-    no capability, and the unit is CAPKEY or the command wants a master key\n\
-    capability: format not 1h\n\
-    capability: method not CAPKEY where CAPKEY rules, else above 1\n\
-    capability: algorithm not 1, where CAPKEY rules\n\
-    capability: expiration not zero and below the clock\n\
-    capability: a needed permission bit of byte 32 is missing\n\
-    capability: policy tag not zero and not the unit's\n\
-    capability: type not 1h, length not 16, or identifier not the unit's\n\
-    no such key: the version has no valid key, a master command names another version than 0, \
-    or Change comes with no seed exchange pending\n\
-    the integrity check value differs\n\
-    B5h: bytes 6-9 are not the page's total\n\
-    IN page 0012h with no seed exchange pending in the unit's key set\n\
-    B5h: the data are not as long as bytes 6-9 say\n\
-    B5h: page code, page length, a field or a named zero of the data is wrong";
-
-// What can be wrong with a line, in the order of `Fault`.
-const FAULTS: [u8; 167] = *b"\n\
-    unknown word\n\
-    missing word\n\
-    surplus word\n\
-    not a number\n\
-    number too large\n\
-    not hex\n\
-    identifier of the wrong length\n\
-    key of the wrong length\n\
-    past the table's end\n\
-    line too long";
-
-// The bytes of s from a up to e, as far as it has them.
-pub fn part(s: &[u8], a: usize, e: usize) -> &[u8] {
-    let end = least(e, s.len());
-    let start = least(a, end);
-    &s[start..end]
-}
-
-// Status, sense key, additional code and qualifier, in upper case, the last three parted by slashes.
-fn put_sense(out: &mut [u8], at: usize, sense: Sense) -> usize {
-    let key = digit(sense.key % 16, b'A');
-    let code_high = digit(sense.code / 16, b'A');
-    let code_low = digit(sense.code % 16, b'A');
-    let high = digit(sense.qualifier / 16, b'A');
-    let low = digit(sense.qualifier % 16, b'A');
-    let n = put(out, at, b"A3 02 ");
-    put(
-        out,
-        n,
-        &[key, b'/', code_high, code_low, b'/', high, low, b' '],
-    )
-}
-
-// The reason, in decimal or `1b`.
-fn put_reason(out: &mut [u8], at: usize, reason: u8) -> usize {
-    if reason == 0x1b {
-        return put(out, at, b"1b");
-    }
-    put_decimal(out, at, reason as u64)
-}
-
-// The place of a reason's words in their list; a number that is no reason has none.
-fn reason_line(reason: u8) -> usize {
+// The words of a reason, as docs/MANUAL.md has them, by its number, as a sense has it; of a number that is no reason there are none.
+fn reason_words(reason: u8) -> &'static str {
     match reason {
-        1 => 0,
-        0x1b => 1,
-        2..=4 => reason as usize,
-        6..=19 => reason as usize - 1,
-        _ => 19,
+        1 => "the unit is above 7, or its record sound and unused",
+        0x1b => {
+            "the unit's record is unsound: damaged; or it shares keys, and its keeper's record is unsound, unused or itself a sharer's"
+        }
+        2 => "the command is empty or its code unknown",
+        3 => "its length is neither the CDB's nor 78 bytes more",
+        4 =>
+            "A2h, B5h: protocol byte 1 not 07h, page in bytes 2-3 unlisted, or bit 7 of byte 4 set",
+        6 => "no capability, and the unit is CAPKEY or the command wants a master key",
+        7 => "capability: format not 1h",
+        8 => "capability: method not CAPKEY where CAPKEY rules, else above 1",
+        9 => "capability: algorithm not 1, where CAPKEY rules",
+        10 => "capability: expiration not zero and below the clock",
+        11 => "capability: a needed permission bit of byte 32 is missing",
+        12 => "capability: policy tag not zero and not the unit's",
+        13 => "capability: type not 1h, length not 16, or identifier not the unit's",
+        14 => {
+            "no such key: the version has no valid key, a master command names another version than 0, \
+            or Change comes with no seed exchange pending"
+        }
+        15 => "the integrity check value differs",
+        16 => "B5h: bytes 6-9 are not the page's total",
+        17 => "IN page 0012h with no seed exchange pending in the unit's key set",
+        18 => "B5h: the data are not as long as bytes 6-9 say",
+        19 => "B5h: page code, page length, a field or a named zero of the data is wrong",
+        _ => "",
     }
 }
 
-// CHECK CONDITION: the sense, the reason and, where they are asked for, its words.
-fn check_text(out: &mut [u8], sense: Sense, explain: bool) -> usize {
-    let reason = sense.reason;
-    let n = put_sense(out, 0, sense);
-    let n = put_reason(out, n, reason);
+// CHECK CONDITION: sense key, additional code and qualifier, the reason, in decimal or `1b`, and where they are asked for its words.
+fn check_text<const N: usize>(
+    out: &mut ArrayString<N>,
+    sense: Sense,
+    explain: bool,
+) -> fmt::Result {
+    write!(
+        out,
+        "A3 02 {:X}/{:02X}/{:02X} ",
+        sense.key % 16,
+        sense.code,
+        sense.qualifier
+    )?;
+    match sense.reason {
+        0x1b => out.write_str("1b")?,
+        reason => write!(out, "{reason}")?,
+    }
     if explain {
-        let n = put(out, n, b": ");
-        return put(out, n, line_of(&REASONS, reason_line(reason)));
+        write!(out, ": {}", reason_words(sense.reason))?;
     }
-    n
-}
-
-// GOOD, handled here: the count, and the bytes that were written to the reply.
-fn good_text(out: &mut [u8], count: u32, reply: &[u8]) -> usize {
-    let n = put(out, 0, b"A0 00 ");
-    let n = put_decimal(out, n, count as u64);
-    let n = put(out, n, b" ");
-    put_hex(out, n, part(reply, 0, count as usize))
-}
-
-fn parked_text(out: &mut [u8], slot: u32) -> usize {
-    let n = put(out, 0, b"A1 ");
-    put_decimal(out, n, slot as u64)
-}
-
-// The answers that have no values, a line each.
-const PLAIN: [u8; 26] = *b"A2 00\nA4 28\nH1\nH2\nH3\nH4\nH5";
-
-// The place of an answer in that list; one that has values has none.
-fn plain_line(answer: Answer) -> usize {
-    match answer {
-        Answer::Run => 0,
-        Answer::Full => 1,
-        Answer::H1 => 2,
-        Answer::H2 => 3,
-        Answer::H3 => 4,
-        Answer::H4 => 5,
-        Answer::H5 => 6,
-        _ => 7,
-    }
+    Ok(())
 }
 
 // The answer of a call: document 01's number and values, and for A0 the bytes that it wrote to the reply. With `explain` an A3 has its
 // reason's words behind it.
-pub fn answer_text(out: &mut [u8], answer: Answer, reply: &[u8], explain: bool) -> usize {
+pub fn answer_text<const N: usize>(
+    out: &mut ArrayString<N>,
+    answer: Answer,
+    reply: &[u8],
+    explain: bool,
+) -> fmt::Result {
     match answer {
-        Answer::Good(count) => good_text(out, count, reply),
-        Answer::Parked(slot) => parked_text(out, slot.0),
+        Answer::Good(count) => {
+            write!(out, "A0 00 {count} ")?;
+            put_hex(out, &reply[..reply.len().min(count as usize)])
+        }
+        Answer::Parked(slot) => write!(out, "A1 {}", slot.0),
         Answer::Check(sense) => check_text(out, sense, explain),
-        _ => put(out, 0, line_of(&PLAIN, plain_line(answer))),
+        Answer::Run => out.write_str("A2 00"),
+        Answer::Full => out.write_str("A4 28"),
+        Answer::H1 => out.write_str("H1"),
+        Answer::H2 => out.write_str("H2"),
+        Answer::H3 => out.write_str("H3"),
+        Answer::H4 => out.write_str("H4"),
+        Answer::H5 => out.write_str("H5"),
     }
-}
-
-fn fault_line(fault: Fault) -> usize {
-    match fault {
-        Fault::Nothing => 0,
-        Fault::UnknownWord => 1,
-        Fault::MissingWord => 2,
-        Fault::SurplusWord => 3,
-        Fault::NotANumber => 4,
-        Fault::NumberTooLarge => 5,
-        Fault::NotHex => 6,
-        Fault::IdentifierLength => 7,
-        Fault::KeyLength => 8,
-        Fault::PastTheEnd => 9,
-        Fault::LineTooLong => 10,
-    }
-}
-
-// What is wrong with line n, and with which of its words; word 0 is none.
-pub fn fault_text(out: &mut [u8], n: u64, word: u32, fault: Fault) -> usize {
-    let at = put(out, 0, b"line ");
-    let at = put_decimal(out, at, n);
-    let at = put_word(out, at, word);
-    let at = put(out, at, b": ");
-    put(out, at, line_of(&FAULTS, fault_line(fault)))
-}
-
-fn put_word(out: &mut [u8], at: usize, word: u32) -> usize {
-    if word == 0 {
-        return at;
-    }
-    let n = put(out, at, b": word ");
-    put_decimal(out, n, word as u64)
-}
-
-// The SHA-1 of a buffer, behind a space.
-fn put_digest(out: &mut [u8], at: usize, buffer: &[u8]) -> usize {
-    let n = put(out, at, b" ");
-    put_hex(out, n, &fips180::hash(buffer))
 }
 
 // The digests of the three buffers.
-pub fn state_text(out: &mut [u8], units: &[u8], slots: &[u8], reply: &[u8]) -> usize {
-    let n = put(out, 0, b"state");
-    let n = put_digest(out, n, units);
-    let n = put_digest(out, n, slots);
-    put_digest(out, n, reply)
+pub fn state_text<const N: usize>(
+    out: &mut ArrayString<N>,
+    units: &[u8],
+    slots: &[u8],
+    reply: &[u8],
+) -> fmt::Result {
+    out.write_str("state")?;
+    for buffer in [units, slots, reply] {
+        out.write_str(" ")?;
+        put_hex(out, &fips180::hash(buffer))?;
+    }
+    Ok(())
 }

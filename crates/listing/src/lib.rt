@@ -6,6 +6,6 @@ mod answers;
 mod lines;
 mod reading;
 
-pub use answers::{answer_text, fault_text, part, state_text};
+pub use answers::{answer_text, state_text};
 pub use lines::{Call, Table, read};
-pub use reading::Fault;
+pub use reading::{Bytes, Fault, Wrong};

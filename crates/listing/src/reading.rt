@@ -1,12 +1,14 @@
 // The words of a line, one after another: numbers, byte strings, and what can be wrong with each.
-ghost use Rattle.std.specs.Prelude.{◌≡◌, ◌≤◌};
+ghost use Rattle.std.specs.Prelude.{◌≤◌, IfOk};
 
+use arrayvec::ArrayVec;
+use std::error::Error;
+use std::fmt;
 use text::{word_at, word_end};
 
-// Why a line can't be read. Nothing: as far as it was read, it can.
-#[derive(Clone, Copy)]
+// Why a line can't be read.
+#[derive(Clone, Copy, Debug, PartialEq, Eq)]
 pub enum Fault {
-    Nothing,
     UnknownWord,
     MissingWord,
     SurplusWord,
@@ -19,198 +21,165 @@ pub enum Fault {
     LineTooLong,
 }
 
-// How far a line has been read: where the next word is looked for, how many bytes its byte strings have laid into the space lent for
-// them, the number of the next word, and the first fault. Once there is one, reading goes no further, and the number is the faulty word's.
-#[derive(Clone, Copy)]
-pub struct Reading {
-    pub at: usize,
-    pub used: usize,
-    pub word: u32,
+impl fmt::Display for Fault {
+    fn fmt<W: fmt::Write>(&self, f: &mut fmt::Formatter<W>) -> fmt::Result {
+        f.write_str(match self {
+            Fault::UnknownWord => "unknown word",
+            Fault::MissingWord => "missing word",
+            Fault::SurplusWord => "surplus word",
+            Fault::NotANumber => "not a number",
+            Fault::NumberTooLarge => "number too large",
+            Fault::NotHex => "not hex",
+            Fault::IdentifierLength => "identifier of the wrong length",
+            Fault::KeyLength => "key of the wrong length",
+            Fault::PastTheEnd => "past the table's end",
+            Fault::LineTooLong => "line too long",
+        })
+    }
+}
+
+// What is wrong with a line, and with which of its words, counted from 1; with none it is the line as a whole.
+#[derive(Clone, Copy, Debug, PartialEq, Eq)]
+pub struct Wrong {
     pub fault: Fault,
+    pub word: Option<u32>,
 }
 
-// A number that was read.
+impl fmt::Display for Wrong {
+    fn fmt<W: fmt::Write>(&self, f: &mut fmt::Formatter<W>) -> fmt::Result {
+        if let Some(word) = self.word {
+            write!(f, "word {word}: ")?;
+        }
+        write!(f, "{}", self.fault)
+    }
+}
+
+impl Error for Wrong {}
+
+// A byte string of a line. Two digits say a byte, so that any fits of a line that is not too long.
+pub type Bytes = ArrayVec<u8, 2048>;
+
+// A word, and its number in the line.
 #[derive(Clone, Copy)]
-pub struct Number {
-    pub value: u64,
-    pub next: Reading,
+pub struct Word<'a> {
+    pub text: &'a [u8],
+    pub number: u32,
 }
 
-pub fn is_wrong(fault: Fault) -> bool {
-    match fault {
-        Fault::Nothing => false,
-        _ => true,
+impl<'a> Word<'a> {
+    pub fn wrong(self, fault: Fault) -> Wrong {
+        Wrong {
+            fault,
+            word: Some(self.number),
+        }
+    }
+
+    // The word as a number of at most `most`.
+    fn number(self, most: u64) -> Result<u64, Wrong>
+        ensures { IfOk result (λ n. n ≤ most) }
+    {
+        if !text::all_digits(self.text, 10) {
+            return Err(self.wrong(Fault::NotANumber));
+        }
+        text::number_of(self.text, most).ok_or(self.wrong(Fault::NumberTooLarge))
+    }
+
+    // The word as a byte string.
+    pub fn bytes(self) -> Result<Bytes, Wrong> {
+        let mut bytes = ArrayVec::new();
+        match text::unhex(self.text, &mut bytes) {
+            Ok(()) => Ok(bytes),
+            Err(_) => Err(self.wrong(Fault::NotHex)),
+        }
+    }
+
+    // The word as a byte string of N bytes; one of any other length has the fault.
+    fn exactly<const N: usize>(self, otherwise: Fault) -> Result<[u8; N], Wrong> {
+        let bytes = self.bytes()?;
+        <[u8; N]>::try_from(bytes.as_slice()).map_err(|_| self.wrong(otherwise))
     }
 }
 
-// The same reading with a fault.
-pub fn wrong(r: Reading, fault: Fault) -> Reading {
-    Reading {
-        at: r.at,
-        used: r.used,
-        word: r.word,
-        fault,
-    }
-}
-
-// The reading behind the next word, with so many bytes used.
-pub fn behind(line: &[u8], r: Reading, used: usize) -> Reading {
-    let at = r.at;
-    let word = r.word;
-    Reading {
-        at: word_end(line, at),
-        used,
-        word: if word < u32::MAX { word + 1 } else { word },
-        fault: Fault::Nothing,
-    }
-}
-
-// The fault of the next word, which is to be one of a few: it is missing, or none of them.
-pub fn name_fault(word: &[u8]) -> Fault {
-    if word.len() == 0 {
-        return Fault::MissingWord;
-    }
-    Fault::UnknownWord
-}
-
-// ---- numbers
-
-fn no_number(r: Reading, fault: Fault) -> Number
-    ensures { result.value ≡ 0 }
-{
-    Number {
-        value: 0,
-        next: wrong(r, fault),
-    }
-}
-
-// The fault of a word that is no number.
-fn number_fault(word: &[u8]) -> Fault {
-    if word.len() == 0 {
-        return Fault::MissingWord;
-    }
-    if text::all_digits(word, 10) {
-        return Fault::NumberTooLarge;
-    }
-    Fault::NotANumber
-}
-
-// Is the word a number of at most `most`?
-fn is_number(word: &[u8], fits: bool) -> bool {
-    choice::and(
-        fits,
-        choice::and(word.len() != 0, text::all_digits(word, 10)),
-    )
-}
-
-// The next word as a number of at most `most`.
-pub fn take_number(line: &[u8], r: Reading, most: u64) -> Number
-    ensures { result.value ≤ most }
-{
-    let fault = r.fault;
-    if is_wrong(fault) {
-        return no_number(r, fault);
-    }
-    let at = r.at;
-    let word = word_at(line, at);
-    let said = text::number_of(word, most);
-    if is_number(word, said.fits) {
-        return Number {
-            value: said.value,
-            next: behind(line, r, r.used),
-        };
-    }
-    no_number(r, number_fault(word))
-}
-
-// A number of 32 bits that was read.
+// How far a line has been read: where the next word is looked for, and its number.
 #[derive(Clone, Copy)]
-pub struct Small {
-    pub value: u32,
-    pub next: Reading,
+pub struct Words<'a> {
+    line: &'a [u8],
+    at: usize,
+    number: u32,
 }
 
-// The next word as a number of at most `most`.
-pub fn take_small(line: &[u8], r: Reading, most: u32) -> Small
-    ensures { result.value ≤ most }
-{
-    let n = take_number(line, r, most as u64);
-    let next = n.next;
-    Small {
-        value: n.value as u32,
-        next,
+impl<'a> Words<'a> {
+    pub fn new(line: &'a [u8]) -> Self {
+        Words {
+            line,
+            at: 0,
+            number: 1,
+        }
     }
-}
 
-// Where the next word is `keeper`, the keeper field that the number behind it asks for: one more than the keeper's number. Any other word
-// is left where it stands, and the field is zero.
-pub fn take_keeper(line: &[u8], r: Reading) -> Small {
-    let fault = r.fault;
-    let at = r.at;
-    let asked = choice::and(!is_wrong(fault), word_at(line, at) == b"keeper".as_slice());
-    if asked {
-        let unit = take_small(line, behind(line, r, r.used), 0xffff_fffe);
-        let next = unit.next;
-        return Small {
-            value: unit.value + 1,
-            next,
-        };
+    // The word that is next, which stays so; empty where there is none.
+    fn peek(&self) -> Word<'a> {
+        Word {
+            text: word_at(self.line, self.at),
+            number: self.number,
+        }
     }
-    Small { value: 0, next: r }
-}
 
-// ---- byte strings
+    // Takes the next word; empty where there is none.
+    pub fn first(&mut self) -> Word<'a> {
+        let word = self.peek();
+        self.at = word_end(self.line, self.at);
+        self.number = self.number.saturating_add(1);
+        word
+    }
 
-// The next word as a byte string, laid into space from r.used on.
-pub fn take_bytes(line: &[u8], r: Reading, space: &mut [u8]) -> Reading {
-    let fault = r.fault;
-    if is_wrong(fault) {
-        return r;
+    // Takes the next word, which must be there.
+    pub fn next(&mut self) -> Result<Word<'a>, Wrong> {
+        let word = self.first();
+        if word.text.is_empty() {
+            return Err(word.wrong(Fault::MissingWord));
+        }
+        Ok(word)
     }
-    let at = r.at;
-    let word = word_at(line, at);
-    if word.len() == 0 {
-        return wrong(r, Fault::MissingWord);
-    }
-    let end = text::unhex(word, space, r.used);
-    if end == text::BAD {
-        return wrong(r, Fault::NotHex);
-    }
-    behind(line, r, end)
-}
 
-// Does what stands from one place up to another have n bytes?
-fn spans(from: usize, end: usize, n: usize) -> bool {
-    if end < from {
-        return false;
+    // The next word as a number.
+    pub fn number(&mut self) -> Result<u64, Wrong> {
+        self.next()?.number(u64::MAX)
     }
-    end - from == n
-}
 
-// The next word as a byte string of n bytes; of any other length it has the fault.
-pub fn take_exactly(
-    line: &[u8],
-    r: Reading,
-    space: &mut [u8],
-    n: usize,
-    otherwise: Fault,
-) -> Reading {
-    let next = take_bytes(line, r, space);
-    let fault = next.fault;
-    let taken = choice::or(is_wrong(fault), spans(r.used, next.used, n));
-    if taken {
-        return next;
+    // The next word as a number of at most `most`.
+    pub fn small(&mut self, most: u32) -> Result<u32, Wrong>
+        ensures { IfOk result (λ n. n ≤ most) }
+    {
+        Ok(self.next()?.number(u64::from(most))? as u32)
     }
-    wrong(r, otherwise)
-}
 
-// The reading of a line whose words were all read: its first fault, or that there are more.
-pub fn at_end(line: &[u8], r: Reading) -> Reading {
-    let fault = r.fault;
-    let at = r.at;
-    let over = choice::or(is_wrong(fault), word_at(line, at).len() == 0);
-    if over {
-        return r;
+    // The next word as a byte string.
+    pub fn bytes(&mut self) -> Result<Bytes, Wrong> {
+        self.next()?.bytes()
     }
-    wrong(r, Fault::SurplusWord)
+
+    // The next word as a byte string of N bytes; one of any other length has the fault.
+    pub fn exactly<const N: usize>(&mut self, otherwise: Fault) -> Result<[u8; N], Wrong> {
+        self.next()?.exactly(otherwise)
+    }
+
+    // Where the next word is `keeper`, the keeper field that the number behind it asks for: one more than the keeper's number. Any other
+    // word is left where it stands, and the field is zero.
+    pub fn keeper(&mut self) -> Result<u32, Wrong> {
+        if self.peek().text != b"keeper".as_slice() {
+            return Ok(0);
+        }
+        let _ = self.first();
+        Ok(self.small(0xffff_fffe)? + 1)
+    }
+
+    // That no word is left.
+    pub fn end(&self) -> Result<(), Wrong> {
+        let word = self.peek();
+        if word.text.is_empty() {
+            return Ok(());
+        }
+        Err(word.wrong(Fault::SurplusWord))
+    }
 }

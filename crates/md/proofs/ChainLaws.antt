@@ -1,14 +1,23 @@
--- Laws of blocks: none, some more, a longer message, and a turn of the loop over them.
-use Prim.Native.Nat.{ℕ, zero, suc, ◌+◌, ◌-◌, ◌*◌, ◌/◌, ◌%◌, ◌≤◌}
-use Rattle.std.specs.Prelude.{◌≡◌, List, ◌++◌, length, take, drop}
+-- Laws of blocks: as the library cuts them, none, some more, and a longer message.
+use Prim.Native.Nat.{ℕ, zero, suc, ◌+◌, ◌*◌, ◌/◌, ◌%◌, ◌≤◌, ◌<◌, ◌-◌}
+use Rattle.std.specs.Prelude.{◌≡◌, List, ◌++◌, length, get_or, take, drop}
 use Rattle.std.proofs.Math.Path.{refl}
-use Rattle.std.proofs.Common.{sym, ap, ap₂, ◌∙◌, suc-add, take_all}
+use Rattle.std.proofs.Common.{sym, ap, ◌∙◌, suc-add, take_all, ap₂}
 use native.Mathlib.Omega.{arith}
 use Rattle.std.proofs.Math.Nat.{zero-add}
 use Rattle.std.proofs.Math.ListN.{length-drop}
 use Rattle.std.proofs.Math.Seq.{drop-drop, drop-append-le}
 use Rattle.std.proofs.lemmas.List.{take-append-le}
+use Rattle.std.specs.Simd.{first_chunks}
 use Rattle.md.specs.Chain.{absorb, Taken}
+
+-- the i-th of the first k blocks of a message, as the library cuts them
+pub chunk_at : (k i : ℕ) (m d : List ℕ) → i < k → get_or (first_chunks 64 k m) i d ≡ take 64 (drop (i * 64) m)
+chunk_at zero i m d h = let f : ⊥ = omega arith in absurd f
+chunk_at (suc k) zero m d h = refl
+chunk_at (suc k) (suc i) m d h =
+    let e : 64 + i * 64 ≡ suc i * 64 = omega arith in
+    chunk_at k i (drop 64 m) d (omega arith) ∙ ap (take 64) (drop-drop (i * 64) 64 m ∙ ap (λ (n : ℕ). drop n m) e)
 
 module _ {S : Type 0} (f : S → List ℕ → S) where
   pub absorb_zero : (s : S) (m : List ℕ) → absorb f 0 s m ≡ s
@@ -39,7 +48,6 @@ module _ {S : Type 0} (f : S → List ℕ → S) where
   absorb_front (suc n) s m x h =
       rw (take-append-le 64 m x (omega arith), drop-append-le 64 m x (omega arith), absorb_front n (f s (take 64 m)) (drop 64 m) x (rw length-drop (omega arith)))
 
-  -- a turn of the loop over whole blocks, at the byte i
   pub absorb_turn : (s v r : S) (m : List ℕ) (i : ℕ) → i / 64 * 64 ≡ i → v ≡ absorb f (i / 64) s m → r ≡ f v (take (i + 64 - i) (drop i m))
       → r ≡ absorb f ((i + 64) / 64) s m
   absorb_turn s v r m i e ev er =

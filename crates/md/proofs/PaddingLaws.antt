@@ -1,6 +1,6 @@
 -- Laws of the padding: it is the standard's, it makes whole blocks, and what is written of it byte by byte is it.
-use Rattle.std.specs.Prelude.{ℕ, suc, ◌+◌, ◌-◌, ◌*◌, ◌/◌, ◌%◌, ◌^◌, ◌≤◌, ◌<◌, ◌≡◌, refl, List, ◌∷◌, ◌++◌, length, get_or, set, take, drop, replicate}
-use Rattle.std.proofs.Common.{sym, ap, ap₂, ◌∙◌, append_assoc, arith, add-one, length-append, length-take-le, take_all, take_at, drop_at}
+use Rattle.std.specs.Prelude.{ℕ, suc, ◌+◌, ◌-◌, ◌*◌, ◌/◌, ◌%◌, ◌^◌, ◌≤◌, ◌<◌, ◌≡◌, refl, List, ◌∷◌, ◌++◌, length, set, take, drop, replicate, get_or}
+use Rattle.std.proofs.Common.{sym, ap, ap₂, ◌∙◌, append_assoc, arith, length-append, length-take-le, take_all, take_at, drop_at, add-one}
 use Rattle.std.proofs.lemmas.List.{length-replicate, replicate-append-replicate, set_at}
 use Rattle.std.proofs.Math.Seq.{take-append-add, length-sets, paste, paste-suc}
 use Rattle.std.proofs.lemmas.List.Edits.{sets, sets-eq}
@@ -68,7 +68,6 @@ before_zeros n s h =
     ap₂ (λ (x y : List ℕ). x ++ y) (take_all (length s) s (omega arith))
     (ap (λ (x : ℕ). drop x (replicate n 0)) e ∙ drop_replicate n (length s) 0 h)
 
--- one byte more of such a copy
 pub copied_more : (d s b : List ℕ) (j : ℕ) → j < length d → j < length s → b ≡ paste d 0 s j → set b j (get_or s j 0) ≡ paste d 0 s (j + 1)
 copied_more d s b j hd hs eb =
     let e : 0 + j ≡ j = omega arith in
@@ -88,6 +87,12 @@ high_word n = omega arith
 
 low_word : (n : ℕ) → n % 536870912 * 8 ≡ n * 8 % 2 ^ 32
 low_word n = omega arith
+
+high_half : (n : ℕ) → n * 8 % 2 ^ 64 / 2 ^ 32 ≡ n * 8 / 2 ^ 32 % 2 ^ 32
+high_half n = omega arith
+
+low_half : (n : ℕ) → n * 8 % 2 ^ 64 % 2 ^ 32 ≡ n * 8 % 2 ^ 32
+low_half n = omega arith
 
 -- a word stored at i, and what stands up to its end
 stored_front : (l : List ℕ) (i x : ℕ) → i + 4 ≤ length l → take (i + 4) (sets l i (bytes32 x)) ≡ take i l ++ bytes32 x
@@ -111,12 +116,12 @@ pub ending_fits : (n t : ℕ) → t ≡ n % 64 → t + (zeros_for n + 9) ≤ 128
 unfolding zeros_for
 ending_fits n t e = omega arith
 
-pub ending_law : (t b p q : List ℕ) (n at high low : ℕ) → length t ≡ n % 64 → length b ≡ 128
+pub ending_halves : (t b p q : List ℕ) (n at high low : ℕ) → length t ≡ n % 64 → length b ≡ 128
     → b ≡ t ++ (0x80 ∷ replicate (127 - length t) 0)
     → at ≡ length t + zeros_for n + 1 → p ≡ sets b at (bytes32 high) → q ≡ sets p (at + 4) (bytes32 low)
-    → high ≡ n / 536870912 % 2 ^ 32 → low ≡ n % 536870912 * 8 → take (length t + (zeros_for n + 9)) q ≡ t ++ padding n
+    → high ≡ n * 8 % 2 ^ 64 / 2 ^ 32 → low ≡ n * 8 % 2 ^ 64 % 2 ^ 32 → take (length t + (zeros_for n + 9)) q ≡ t ++ padding n
 unfolding padding length_block
-ending_law t b p q n at high low ht lb eb ea ep eq eh el =
+ending_halves t b p q n at high low ht lb eb ea ep eq eh el =
     let fits : length t + (zeros_for n + 9) ≤ 128 = ending_fits n (length t) ht in
     let lp : length p ≡ 128 = ap length ep ∙ length-sets b at (bytes32 high) ∙ lb in
     let e9 : length t + (zeros_for n + 9) ≡ at + 4 + 4 = omega arith in
@@ -127,4 +132,12 @@ ending_law t b p q n at high low ht lb eb ea ep eq eh el =
     (ap (take (at + 4)) ep ∙ stored_front b at high (omega arith) ∙ ap (λ (x : List ℕ). x ++ bytes32 high) head)
     ∙ append_assoc (t ++ (0x80 ∷ replicate (zeros_for n) 0)) (bytes32 high) (bytes32 low)
     ∙ append_assoc t (0x80 ∷ replicate (zeros_for n) 0) (bytes32 high ++ bytes32 low)
-    ∙ ap₂ (λ (x y : ℕ). t ++ (0x80 ∷ (replicate (zeros_for n) 0 ++ (bytes32 x ++ bytes32 y)))) (eh ∙ high_word n) (el ∙ low_word n)
+    ∙ ap₂ (λ (x y : ℕ). t ++ (0x80 ∷ (replicate (zeros_for n) 0 ++ (bytes32 x ++ bytes32 y)))) (eh ∙ high_half n) (el ∙ low_half n)
+
+-- the same, with the length's two words cut from the count of bytes
+pub ending_law : (t b p q : List ℕ) (n at high low : ℕ) → length t ≡ n % 64 → length b ≡ 128
+    → b ≡ t ++ (0x80 ∷ replicate (127 - length t) 0)
+    → at ≡ length t + zeros_for n + 1 → p ≡ sets b at (bytes32 high) → q ≡ sets p (at + 4) (bytes32 low)
+    → high ≡ n / 536870912 % 2 ^ 32 → low ≡ n % 536870912 * 8 → take (length t + (zeros_for n + 9)) q ≡ t ++ padding n
+ending_law t b p q n at high low ht lb eb ea ep eq eh el =
+    ending_halves t b p q n at high low ht lb eb ea ep eq (eh ∙ high_word n ∙ sym (high_half n)) (el ∙ low_word n ∙ sym (low_half n))

@@ -11,3 +11,4 @@ pub mod Codes
 pub mod Totals
 -- IN page 0013h
 pub mod Controlled
+pub mod Reason

@@ -7,7 +7,8 @@ use crate::{
     PROTOCOL_IN, PROTOCOL_OUT, SEED_EXCHANGE, SEED_IN, SET_ATTRIBUTES, SET_KEY,
 };
 
-// For each operation code: 0 unknown, 1 open, 2 by page, else the permission byte. A listed code stands beside its entry.
+// For each operation code: 0 unknown, 1 open, 2 by page, else the permission byte: numbers, so that memory of zeros knows no command
+// (docs/DECISIONS.md, D9). A listed code stands beside its entry.
 const COMMANDS: [u8; 256] = [
     // 00h to 0Fh
     0x01, // 00h
@@ -104,10 +105,7 @@ fn out_page_need(page: u32) -> Need
 pub fn by_page(code: u8) -> bool
     ensures { result ≡ by_page code }
 {
-    match code {
-        PROTOCOL_IN | PROTOCOL_OUT => true,
-        _ => false,
-    }
+    matches!(code, PROTOCOL_IN | PROTOCOL_OUT)
 }
 
 // What a command of a code that goes by page needs; Unknown for an unlisted page.
@@ -116,9 +114,10 @@ fn page_need(code: u8, page: u32) -> Need
     ensures { result ≡ need_of code page }
 {
     if code == PROTOCOL_IN {
-        return in_page_need(page);
+        in_page_need(page)
+    } else {
+        out_page_need(page)
     }
-    out_page_need(page)
 }
 
 // What a command needs. The page counts only for a code that goes by page.
@@ -138,34 +137,19 @@ pub fn need_of(code: u8, page: u32) -> Need
 pub fn is_unknown(n: Need) -> bool
     ensures { result ≡ is_unknown n }
 {
-    match n {
-        Need::Unknown => true,
-        Need::Open => false,
-        Need::Bits(_) => false,
-        Need::Master(_) => false,
-    }
+    matches!(n, Need::Unknown)
 }
 
 // Does it run without papers?
 pub fn is_open_row(n: Need) -> bool
     ensures { result ≡ is_open_row n }
 {
-    match n {
-        Need::Unknown => false,
-        Need::Open => true,
-        Need::Bits(_) => false,
-        Need::Master(_) => false,
-    }
+    matches!(n, Need::Open)
 }
 
 // Does it need the master key?
 pub fn is_master(n: Need) -> bool
     ensures { result ≡ is_master n }
 {
-    match n {
-        Need::Unknown => false,
-        Need::Open => false,
-        Need::Bits(_) => false,
-        Need::Master(_) => true,
-    }
+    matches!(n, Need::Master(_))
 }

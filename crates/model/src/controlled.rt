@@ -1,5 +1,5 @@
 // The rows of the Controlled Commands page, IN page 0013h (document 01, "Pages").
-ghost use Rattle.std.specs.Prelude.{◌≡◌, get_or};
+ghost use Rattle.std.specs.Prelude.{◌≡◌};
 ghost use Rattle.model.specs.Controlled.{controlled};
 
 // 31 rows of 6 bytes: code, 00h, page (two bytes), permission byte, 01h for master.
@@ -68,9 +68,9 @@ const CONTROLLED: [u8; 186] = [
     0xB5, 0x00, 0x00, 0x15, 0x08, 0x01,
 ];
 
-// The byte at i of the page's rows, 0 past their end.
-pub fn controlled_at(i: usize) -> u8
-    ensures { result ≡ get_or controlled i 0 }
+// The page's rows.
+pub fn controlled_rows() -> &'static [u8; 186]
+    ensures { result.now ≡ controlled }
 {
-    if i < 186 { CONTROLLED[i] } else { 0 }
+    &CONTROLLED
 }

@@ -3,6 +3,8 @@
 
 mod commands;
 mod controlled;
+mod places;
+mod reason;
 
 ghost use Rattle.std.specs.Prelude.{◌≡◌};
 ghost use Rattle.model.specs.Codes.{cdb_len, data_out, legal_len};
@@ -10,14 +12,17 @@ ghost use Rattle.model.specs.Refusal.{sense_key, additional_code, refusal};
 ghost use Rattle.model.specs.Totals.{total_of};
 
 pub use commands::{by_page, is_master, is_open_row, is_unknown, need_of};
-pub use controlled::controlled_at;
+pub use controlled::controlled_rows;
+pub use places::{KeyVersion, Slot, Unit};
+pub use reason::Reason;
 
 // SECURITY PROTOCOL IN and OUT.
 pub const PROTOCOL_IN: u8 = 0xA2;
 
 pub const PROTOCOL_OUT: u8 = 0xB5;
 
-// The pages of IN.
+// The pages of IN. A page is the number that a CDB names, whatever it is: each `match` over pages says what it makes of all others, which
+// an enum would only put off to where it is made.
 pub const PAGES_OF_IN: u32 = 0x0000;
 
 pub const PAGES_OF_OUT: u32 = 0x0001;
@@ -39,18 +44,28 @@ pub const SET_KEY: u32 = 0x0014;
 
 pub const CHANGE_MASTER: u32 = 0x0015;
 
-// Three numbers that are never taken for one another.
-#[derive(Clone, Copy)]
+// The numbers that callers pass, whatever they are. They are never taken for one another.
+#[derive(Clone, Copy, PartialEq, Eq)]
 pub struct UnitNo(pub u32);
 
-#[derive(Clone, Copy)]
+#[derive(Clone, Copy, PartialEq, Eq)]
 pub struct SlotNo(pub u32);
 
+// What a unit is built of. The keeper is zero for own keys, or one more than the number of the unit that keeps them.
 #[derive(Clone, Copy)]
-pub struct KeyVersion(pub u32);
+pub struct Build {
+    pub unit: UnitNo,
+    pub method: u32,
+    pub tag: u32,
+    pub identifier: [u8; 16],
+    pub auth_key: [u8; 20],
+    pub gen_key: [u8; 20],
+    pub keeper: u32,
+}
 
-// What goes with CHECK CONDITION: sense key, additional code and qualifier, and the reason (1b is 0x1b).
-#[derive(Clone, Copy)]
+// What goes with CHECK CONDITION: sense key, additional code and qualifier, and the reason's number (1b is 0x1b), for which `refusal` and
+// the C face's word have any number.
+#[derive(Clone, Copy, PartialEq, Eq)]
 pub struct Sense {
     pub key: u8,
     pub code: u8,
@@ -59,7 +74,7 @@ pub struct Sense {
 }
 
 // A0 to A4 and H1 to H5.
-#[derive(Clone, Copy)]
+#[derive(Clone, Copy, PartialEq, Eq)]
 pub enum Answer {
     Good(u32),
     Parked(SlotNo),
@@ -74,7 +89,7 @@ pub enum Answer {
 }
 
 // What a command needs: nothing (Open), permission bits, or permission bits under a master key. An Unknown one is refused.
-#[derive(Clone, Copy)]
+#[derive(Clone, Copy, PartialEq, Eq)]
 pub enum Need {
     Unknown,
     Open,
@@ -83,6 +98,7 @@ pub enum Need {
 }
 
 // 5h, except reason 1b.
+#[tactic(auto, unfolding(crate::specs::Refusal::sense_key))]
 fn sense_key(reason: u8) -> u8
     ensures { result ≡ sense_key reason }
 {
@@ -90,6 +106,7 @@ fn sense_key(reason: u8) -> u8
 }
 
 // The additional code; the qualifier is 00h for every reason.
+#[tactic(auto, unfolding(crate::specs::Refusal::additional_code))]
 fn additional_code(reason: u8) -> u8
     ensures { result ≡ additional_code reason }
 {
@@ -104,6 +121,7 @@ fn additional_code(reason: u8) -> u8
 }
 
 // The answer that a reason gives: A3, with the sense that document 01 has for it.
+#[tactic(auto, unfolding(crate::specs::Refusal::refusal))]
 pub fn refuse(reason: u8) -> Answer
     ensures { result ≡ refusal reason }
 {
@@ -117,7 +135,8 @@ pub fn refuse(reason: u8) -> Answer
     })
 }
 
-// The CDB's length, 0 where the code has none.
+// The CDB's length, 0 where the code has none: a length like any other for who cuts a command there, and no command's.
+#[tactic(auto, unfolding(crate::specs::Codes::cdb_len))]
 pub fn cdb_len(code: u8) -> u32
     ensures { result ≡ cdb_len code }
 {
@@ -131,30 +150,24 @@ pub fn cdb_len(code: u8) -> u32
 }
 
 // Does a command of this code carry data out?
+#[tactic(auto, unfolding(crate::specs::Codes::data_out))]
 pub fn data_out(code: u8) -> bool
     ensures { result ≡ data_out code }
 {
-    match code {
-        0x0A | 0x15 | 0x2A | 0x2E | 0x55 | 0x8A | 0xAA | 0xB5 => true,
-        _ => false,
-    }
+    matches!(code, 0x0A | 0x15 | 0x2A | 0x2E | 0x55 | 0x8A | 0xAA | 0xB5)
 }
 
 // May a command of this code be n bytes long: the CDB alone, or with descriptor and integrity check value after it?
+#[tactic(auto, unfolding(crate::specs::Codes::legal_len))]
 pub fn legal_len(code: u8, n: usize) -> bool
     ensures { result ≡ legal_len code n }
 {
     let cdb = cdb_len(code) as usize;
-    if cdb == 0 {
-        return false;
-    }
-    if n == cdb {
-        return true;
-    }
-    n == cdb + 78
+    cdb != 0 && (n == cdb || n == cdb + 78)
 }
 
-// The total bytes of an Out page's parameter list, 0 for any other page.
+// The total bytes of an Out page's parameter list, 0 for any other page (docs/DECISIONS.md, D20).
+#[tactic(auto, unfolding(crate::specs::Totals::total_of))]
 pub fn out_total(page: u32) -> u32
     ensures { result ≡ total_of page }
 {

@@ -16,8 +16,7 @@ use Rattle.model.specs.declared.Answer.TheVariants.{Good, Parked, Run, Full, H1,
 use Rattle.units.specs.Fields.{used_record, built}
 use Rattle.slots.specs.Slot.{slot_at, right_token, lowest_free, freed, all_freed}
 use Rattle.slots.proofs.SearchLaws.{lowest}
-use Rattle.slots.specs.declared.Found.{Found}
-use Rattle.slots.specs.declared.Found.TheVariants.{At, Nothing}
+use Rattle.std.specs.Prelude.{Option, Some, None}
 use Rattle.judge.specs.Command.{code_of, page_of, length_field}
 use Rattle.judge.specs.Seen.{Seen, seen}
 use Rattle.judge.specs.Judgement.{Test, first, unit_tests, code_tests, length_tests, protocol_tests, skips_guard, bare_tests, form_tests, fact_tests, found_tests, value_tests, credential_tests, guard_tests, page_tests, earlier_tests, later_tests, open_tests, open_reason}
@@ -116,9 +115,9 @@ judged_back s c d r h =
 -- ---- open and close
 
 module _ (l : Lent) (k : Asked) (clock : ℕ) where
-  slot_back : (f : Found) → lowest_free l.tabled.slots ≡ f → Back (parked_in l.tabled.slots k f)
-  slot_back (At s) e = let w = (lowest l.tabled.slots s e).0 in record { same = paper_back (Parked s) (omega arith, tt) }
-  slot_back Nothing e = record { same = paper_back Full (omega arith, tt) }
+  slot_back : (f : Option ℕ) → lowest_free l.tabled.slots ≡ f → Back (parked_in l.tabled.slots k f)
+  slot_back (Some s) e = let w = (lowest l.tabled.slots s e).0 in record { same = paper_back (Parked (record { 0 = s })) (omega arith, tt) }
+  slot_back None e = record { same = paper_back Full (omega arith, tt) }
 
   pub open_back : paper_in (packed_paper (open_out l k clock).answer) ≡ (open_out l k clock).answer
   unfolding open_out judged_out

@@ -9,6 +9,7 @@ ghost use Rattle.calls.specs.Open.{open_out};
 ghost use Rattle.calls.specs.Close.{close_out};
 ghost use Rattle.nectarnook.specs.Packed.{word, packed, returned, packed_out, returned_one, packed_one};
 
+use calls::Build;
 use model::{Answer, Sense, SlotNo, UnitNo};
 
 // The values in their places.
@@ -69,16 +70,16 @@ pub extern "C" fn nn_build(
 ) -> u64
     ensures { returned_one result units.new ≡ packed_one (build_out units.old unit method tag identifier.now auth_key.now gen_key.now keeper) }
 {
-    pack(calls::build(
-        units,
-        UnitNo(unit),
+    let build = Build {
+        unit: UnitNo(unit),
         method,
         tag,
-        identifier,
-        auth_key,
-        gen_key,
+        identifier: *identifier,
+        auth_key: *auth_key,
+        gen_key: *gen_key,
         keeper,
-    ))
+    };
+    pack(calls::build(units, build))
 }
 
 // Opens a command.

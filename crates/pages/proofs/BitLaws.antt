@@ -2,6 +2,9 @@
 use Rattle.std.specs.Prelude.{◌≡◌, refl, Bool, ℕ, suc, ◌+◌, ◌-◌, ◌*◌, ◌/◌, ◌%◌, ◌^◌, ◌<◌, eqb, ltb}
 use Rattle.std.proofs.Common.{sym, ap, ◌∙◌, arith, mul-one, mul_assoc, pow_pos, pow-add, shr-shr, ltb-true, ltb-false, eqb-true}
 use Rattle.std.proofs.Math.Bool.{true, false}
+use Rattle.std.specs.Int.Bits.{bit_or, or_add_and}
+use Rattle.std.proofs.lemmas.Nat.Bits.{and_pow}
+use Rattle.choice.specs.Choice.{pick}
 use Rattle.std.proofs.Math.Nat.{pow-succ', add-mul-div_left, add-mul-mod_self_left, div-div-eq-div-mul, pow-le-pow_right}
 use Rattle.std.proofs.lemmas.Bool.{eqb-false}
 use Rattle.wire.specs.Bytes.{number, bytes_of}
@@ -48,6 +51,18 @@ module _ (v w x : ℕ) (clear : x / 2 ^ v % 2 ≡ 0) (other : w ≡ v → ⊥) w
 
 pub bit_shifted : (v : ℕ) → v < 16 → 1 * 2 ^ v % 4294967296 ≡ 2 ^ v
 bit_shifted v h = let k = pow-le-pow_right {n = 2} (omega arith) {i = v} {j = 15} (omega arith) in omega arith
+
+-- the bit set by an or
+pub or_bit : (v m : ℕ) → bit_or m (2 ^ v) ≡ with_bit v m
+unfolding with_bit
+or_bit v m = by (eqb (m / 2 ^ v % 2) 1) refl
+  where
+    sum : bit_or m (2 ^ v) + m / 2 ^ v % 2 * 2 ^ v ≡ m + 2 ^ v
+    sum = rw (and_pow m v) at (or_add_and m (2 ^ v))
+
+    by : (b : Bool) → eqb (m / 2 ^ v % 2) 1 ≡ b → bit_or m (2 ^ v) ≡ pick b m (m + 2 ^ v)
+    by true e = let k = eqb-true (m / 2 ^ v % 2) 1 e in let s = rw k at sum in omega arith
+    by false e = let k = even (m / 2 ^ v) (eqb-false (m / 2 ^ v % 2) 1 e) in let s = rw k at sum in omega arith
 
 -- a clear bit can be added to a number of 32 bits
 pub bit_fits : (v m : ℕ) → v < 16 → m < 2 ^ 32 → (m / 2 ^ v % 2 ≡ 1 → ⊥) → m + 2 ^ v < 2 ^ 32

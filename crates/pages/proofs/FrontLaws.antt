@@ -1,12 +1,11 @@
 -- Laws of a list's front: the widths are small, and what stands there are the fields that each page is judged and obeyed by.
-use Rattle.std.specs.Prelude.{◌≡◌, Bool, true, false, not, List, ℕ, ◌+◌, ◌≤◌, ◌<◌, eqb, ltb, length}
-use Rattle.std.proofs.Common.{arith}
+use Rattle.std.specs.Prelude.{◌≡◌, refl, Bool, true, false, not, List, ℕ, ◌+◌, ◌≤◌, ◌<◌, eqb, ltb, length, take, drop}
+use Rattle.std.proofs.Common.{◌∙◌, sym, ap, arith, take_all, length-drop}
 use Rattle.choice.specs.Choice.{pick, either}
-use Rattle.wire.specs.Bytes.{part}
+use Rattle.wire.specs.Bytes.{part, number}
 use Rattle.model.specs.Protocol.{set_attributes, seed_exchange, set_key}
 use Rattle.model.specs.Totals.{total_of}
-use Rattle.pages.specs.declared.reader.Front.{Front}
-use Rattle.pages.specs.Front.{AtFront, first_width, second_width, third_width, FrontOf}
+use Rattle.pages.specs.Front.{Front, AtFront, first_width, second_width, third_width, FrontOf}
 use Rattle.pages.specs.Out.{new_method, new_tag, new_version, seed, group, agreed}
 use Rattle.pages.specs.Out.{wrong_attributes, wrong_key, wrong_exchange, wrong_fields, wrong_list}
 use Rattle.pages.proofs.OutLaws.{right_version, key_total, exchange_total}
@@ -102,3 +101,36 @@ module _ (page : ℕ) (d : List ℕ) (f : Front) (h : FrontOf page d f) where
     pub exchange_obeyed : (s : List ℕ) → page ≡ seed_exchange → s ≡ part f.run 256 d → r ≡ exchanged s rec → r ≡ new_keys page d rec
     unfolding new_keys agreed
     exchange_obeyed s e p k = let g = exchange_front e in rw e (rw (p, g.run_reached) at k)
+
+-- ---- the front that stands there, and what its page makes of a key set: what is behind eight bytes is the seed, or the agreed value
+
+module _ (page : ℕ) (d : List ℕ) where
+  abbrev pub front : Front
+  front = record {
+    page = number 2 0 d;
+    length = number 2 2 d;
+    first = number (first_width page) 4 d;
+    second = number (second_width page) (4 + first_width page) d;
+    third = number (third_width page) (4 + first_width page + second_width page) d;
+    run = 4 + first_width page + second_width page + third_width page;
+  }
+
+  pub front_is : FrontOf page d front
+  front_is = record { page_read = refl; length_read = refl; first_read = refl; second_read = refl; third_read = refl; run_reached = refl }
+
+  module _ (rec r s : List ℕ) (long : length d ≡ total_of page) where
+    pub key_said : (v : ℕ) → page ≡ set_key → v ≡ new_version d → s ≡ drop 8 d → r ≡ working_key_set v s rec → r ≡ new_keys page d rec
+    unfolding new_version
+    key_said v e h p k =
+        let g = key_front page d front front_is e in
+        let n = key_total page (length d) e long in
+        let whole : take 20 (drop 8 d) ≡ drop 8 d = take_all 20 (drop 8 d) (rw length-drop (omega arith)) in
+        let version = ap (λ (m : ℕ). working_key_set m s rec) (h ∙ sym g.first_read) in
+        key_obeyed page d front front_is rec r s e (p ∙ sym (rw g.run_reached whole)) (k ∙ version)
+
+    pub exchange_said : page ≡ seed_exchange → s ≡ drop 8 d → r ≡ exchanged s rec → r ≡ new_keys page d rec
+    exchange_said e p k =
+        let g = exchange_front page d front front_is e in
+        let n = exchange_total page (length d) e long in
+        let whole : take 256 (drop 8 d) ≡ drop 8 d = take_all 256 (drop 8 d) (rw length-drop (omega arith)) in
+        exchange_obeyed page d front front_is rec r s e (p ∙ sym (rw g.run_reached whole)) k

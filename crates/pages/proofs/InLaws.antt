@@ -5,7 +5,8 @@ use Rattle.std.proofs.Math.Nat.{min-le_right, min-eq_left, min-eq_right}
 use Rattle.std.proofs.Math.ListN.{get_or-append}
 use Rattle.choice.specs.Choice.{pick}
 use Rattle.choice.specs.ChoiceLaws.{pick_holds}
-use Rattle.wire.specs.Bytes.{bytes_of}
+use Rattle.wire.specs.Bytes.{bytes_of, patch}
+use Rattle.wire.proofs.PatchLaws.{patch_all, patch_join}
 use Rattle.model.specs.Protocol.{pages_of_in, pages_of_out, capabilities_in, attributes_in, controlled_in}
 use Rattle.model.specs.Controlled.{controlled}
 use Rattle.model.proofs.ControlledLaws.{controlled_length}
@@ -31,6 +32,15 @@ pub controlled_head : (i : ℕ) → i < 4 → get_or (0x00 ∷ 0x13 ∷ 0x00 ∷
 unfolding controlled_page bytes_of
 controlled_head i h =
     ap (λ (n : ℕ). get_or (bytes_of 2 controlled_in ++ bytes_of 2 n) i 0) (sym controlled_length) ∙ sym (framed_head controlled_in controlled i h)
+
+-- its head laid at the front of as many bytes as it has, and the rows behind
+pub controlled_laid : (zs rows one two : List ℕ) → length zs ≡ 190 → rows ≡ controlled → one ≡ patch zs 0 (0x00 ∷ 0x13 ∷ 0x00 ∷ 0xBA ∷ [])
+    → two ≡ patch one 4 rows → two ≡ controlled_page
+unfolding controlled_page bytes_of
+controlled_laid zs rows one two long r e f =
+    f ∙ rw (e, r) (patch_join zs 0 (0x00 ∷ 0x13 ∷ 0x00 ∷ 0xBA ∷ []) (omega arith) 4 controlled refl)
+    ∙ patch_all zs (0x00 ∷ 0x13 ∷ 0x00 ∷ 0xBA ∷ controlled) (omega (arith, controlled_length))
+    ∙ ap (λ (n : ℕ). bytes_of 2 controlled_in ++ (bytes_of 2 n ++ controlled)) (sym controlled_length)
 
 pub attributes_at : (rec keys : List ℕ) (m t k i : ℕ) → m ≡ method rec → t ≡ policy_tag rec → k ≡ mask keys
     → get_or (framed attributes_in (bytes_of 2 m ++ (bytes_of 4 t ++ bytes_of 2 k))) i 0 ≡ get_or (attributes_page rec keys) i 0

@@ -1,6 +1,10 @@
 -- The effects' steps: what the code reads, makes and writes one after another is what their definitions say.
-use Rattle.std.specs.Prelude.{◌≡◌, refl, List, [], ◌∷◌, ◌++◌, ℕ, zero, suc, ◌<◌, length, get_or, set}
-use Rattle.std.proofs.Common.{◌∙◌, ap, arith}
+use Rattle.std.specs.Prelude.{◌≡◌, ◌≢◌, refl, Bool, true, false, List, [], ◌∷◌, ◌++◌, ℕ, zero, suc, ◌+◌, ◌-◌, ◌*◌, ◌%◌, ◌<◌, eqb, length, get_or, set}
+use Rattle.std.specs.Int.Bits.{bit_xor, xor_add_and}
+use Rattle.std.proofs.Common.{◌∙◌, ap, arith, eqb-true}
+use Rattle.std.proofs.lemmas.Nat.{and_mask}
+use Rattle.std.proofs.lemmas.Bool.{eqb-false}
+use Rattle.choice.specs.Choice.{pick}
 use Rattle.wire.specs.Bytes.{patch}
 use Rattle.wire.proofs.PatchLaws.{patch_all}
 use Rattle.hmac.specs.Hmac.{hmac, by_sha1}
@@ -11,6 +15,17 @@ use Rattle.units.proofs.UnitLaws.{identifier_length}
 use Rattle.pages.specs.Effects.{with_bit, working_key_set, flipped, last_flipped, next_auth, next_gen, exchanged, changed}
 
 -- ---- the last byte's lowest bit
+
+-- an exclusive or with 1 inverts it
+pub xor_flipped : (x : ℕ) → bit_xor x 1 ≡ flipped x
+xor_flipped x = by (eqb (x % 2) 1) refl
+  where
+    sum : bit_xor x 1 + x % 2 * 2 ≡ x + 1
+    sum = rw (and_mask x 1) at (xor_add_and x 1)
+
+    by : (b : Bool) → eqb (x % 2) 1 ≡ b → bit_xor x 1 ≡ pick b (x - 1) (x + 1)
+    by true e = let odd : x % 2 ≡ 1 = eqb-true (x % 2) 1 e in omega (arith, sum)
+    by false e = let even : x % 2 ≢ 1 = eqb-false (x % 2) 1 e in omega (arith, sum)
 
 flip_last : (l : List ℕ) (n : ℕ) → length l ≡ suc n → set l n (flipped (get_or l n 0)) ≡ last_flipped l
 flip_last [] n e = absurd (omega arith)
@@ -38,6 +53,12 @@ flipped_steps rec zs id x b full lz g e f =
     let long : length (identifier rec) ≡ 16 = identifier_length rec full in
     let k : id ≡ identifier rec = rw g at e ∙ patch_all zs (identifier rec) (omega arith) in
     rw (f, k) (flip_last (identifier rec) 15 long)
+
+-- the same where the bytes are those, and an exclusive or inverts the bit
+pub xored_steps : (rec id : List ℕ) → length rec ≡ 512 → id ≡ identifier rec
+    → set id 15 (bit_xor (get_or id 15 0) 1) ≡ last_flipped (identifier rec)
+xored_steps rec id full e =
+    rw (e, xor_flipped (get_or (identifier rec) 15 0)) (flip_last (identifier rec) 15 (identifier_length rec full))
 
 -- ---- one setter behind another, and the check
 

@@ -4,7 +4,15 @@ use Rattle.std.specs.Prelude.{◌≡◌, List, ℕ, ◌+◌, eqb}
 use Rattle.choice.specs.Choice.{pick}
 use Rattle.wire.specs.Bytes.{number}
 use Rattle.model.specs.Protocol.{set_attributes, seed_exchange, set_key}
-use Rattle.pages.specs.declared.reader.Front.{Front}
+
+-- page code, page length, the three numbers, and where the run of bytes behind them starts
+pub record Front : Type 0 where
+  pub page : ℕ
+  pub length : ℕ
+  pub first : ℕ
+  pub second : ℕ
+  pub third : ℕ
+  pub run : ℕ
 
 -- f is what a reader finds in l, one field behind another, where the three numbers have a, b and c bytes
 pub record AtFront (l : List ℕ) (a b c : ℕ) (f : Front) : Type 0 where

@@ -3,3 +3,4 @@ pub mod In
 pub mod Out
 pub mod Front
 pub mod Effects
+pub mod Parameters

@@ -5,41 +5,34 @@ ghost use Rattle.hmac.specs.Hmac.{hmac, by_sha1};
 ghost use Rattle.model.specs.Totals.{total_of};
 ghost use Rattle.units.specs.Unit.{identifier, gen_key_of};
 ghost use Rattle.pages.specs.Out.{new_method, new_tag, wrong_list};
-ghost use Rattle.pages.specs.Effects.{attributes_set, with_bit, working_key_set, flipped, last_flipped};
+ghost use Rattle.pages.specs.Effects.{attributes_set, with_bit, working_key_set, last_flipped};
 ghost use Rattle.pages.specs.Effects.{next_gen, next_auth, exchanged, changed, new_keys};
 
-use super::lists::front_of;
-use super::reader::run_of;
+use super::lists::{Attributes, Head, Parameters, Wrong};
+use hmac::Mac;
 use model::KeyVersion;
+use seal::Record;
 
-// Set Attributes: the unit's method and tag.
-pub fn set_attributes(own: &mut [u8], list: &[u8])
-    requires { length own.old ≡ 512 }
-    ensures { own.new ≡ attributes_set (new_method list.now) (new_tag list.now) own.old }
+// Set Attributes: the unit's method and tag, whatever else the list says.
+pub fn set_attributes(own: &mut Record, list: &[u8])
+    ensures set { own.new ≡ attributes_set (new_method list.now) (new_tag list.now) own.old }
+    ensures whole { length own.new ≡ 512 }
 {
-    let f = front_of(model::SET_ATTRIBUTES, list);
-    units::set_method(own, f.first);
-    units::set_tag(own, f.second);
+    let attributes = Attributes::read(Head::read(list));
+    units::set_method(own, attributes.method);
+    units::set_tag(own, attributes.tag);
     seal::seal_record(own);
 }
 
 // The mask with the version's bit set.
 fn with_bit(mask: u32, version: KeyVersion) -> u32
-    requires { version.0 < 16 }
-    ensures { result ≡ with_bit version.0 mask }
+    ensures { result ≡ with_bit version mask }
 {
-    let v = version.0;
-    let bit = 1u32 << v;
-    if (mask >> v) % 2 == 1 {
-        mask
-    } else {
-        mask + bit
-    }
+    mask | (1 << version.number())
 }
 
 // The working key: HMAC under the generation master key over the seed.
-fn made_key(keys: &[u8], seed: &[u8]) -> [u8; 20]
-    requires { length keys.now ≡ 512 }
+fn made_key(keys: &Record, seed: &[u8]) -> [u8; 20]
     ensures { result ≡ hmac by_sha1 (gen_key_of keys.now) seed.now }
 {
     let generation = units::gen_key_of(keys);
@@ -47,12 +40,11 @@ fn made_key(keys: &[u8], seed: &[u8]) -> [u8; 20]
 }
 
 // Set Key: the key of the version, and its mask bit.
-fn set_key(keys: &mut [u8], version: KeyVersion, seed: &[u8])
-    requires { (length keys.old ≡ 512) × (version.0 < 16) }
-    ensures { keys.new ≡ working_key_set version.0 seed.now keys.old }
+fn set_key(keys: &mut Record, version: KeyVersion, seed: &[u8])
+    ensures { keys.new ≡ working_key_set version seed.now keys.old }
 {
-    let key = made_key(&keys[..], seed);
-    let mask = with_bit(units::mask_of(&keys[..]), version);
+    let key = made_key(keys, seed);
+    let mask = with_bit(units::mask_of(keys), version);
     units::set_mask(keys, mask);
     units::set_working_key(keys, version, key);
     seal::seal_record(keys);
@@ -62,25 +54,19 @@ fn set_key(keys: &mut [u8], version: KeyVersion, seed: &[u8])
 fn hmac_of_two(key: &[u8], first: &[u8], second: &[u8]) -> [u8; 20]
     ensures { result ≡ hmac by_sha1 key.now (first.now ++ second.now) }
 {
-    hmac::finish(hmac::feed(hmac::feed(hmac::start(key), first), second))
-}
-
-// A byte with its lowest bit inverted.
-fn flip(x: u8) -> u8
-    ensures { result ≡ flipped x }
-{
-    if x % 2 == 1 { x - 1 } else { x + 1 }
+    let mut mac = Mac::new(key);
+    mac.feed(first);
+    mac.feed(second);
+    mac.finish()
 }
 
 // The identifier of the unit that keeps the keys, with the lowest bit of its last byte inverted.
-fn flipped_identifier(keys: &[u8]) -> [u8; 16]
-    requires { length keys.now ≡ 512 }
+fn flipped_identifier(keys: &Record) -> [u8; 16]
     ensures { result ≡ last_flipped (identifier keys.now) }
 {
-    let identifier = units::identifier_of(keys);
-    let mut id = [0u8; 16];
-    wire::put(&mut id, 0, identifier);
-    id[15] = flip(id[15]);
+    let mut id = [0; 16];
+    id.copy_from_slice(units::identifier_of(keys));
+    id[15] ^= 1;
     id
 }
 
@@ -92,8 +78,7 @@ struct Pair {
 }
 
 // The next pair: HMACs under the generation master key over S, and over S with the lowest bit of its last byte inverted.
-fn next_pair(keys: &[u8], value: &[u8]) -> Pair
-    requires { length keys.now ≡ 512 }
+fn next_pair(keys: &Record, value: &[u8]) -> Pair
     ensures { (result.auth ≡ next_auth value.now keys.now) × (result.generation ≡ next_gen value.now keys.now) }
 {
     let key = units::gen_key_of(keys);
@@ -104,25 +89,21 @@ fn next_pair(keys: &[u8], value: &[u8]) -> Pair
 }
 
 // Seed Exchange: the next pair, and step 1.
-fn exchange(keys: &mut [u8], value: &[u8])
-    requires { length keys.old ≡ 512 }
+fn exchange(keys: &mut Record, value: &[u8])
     ensures { keys.new ≡ exchanged value.now keys.old }
 {
-    let pair = next_pair(&keys[..], value);
-    let auth = pair.auth;
-    let generation = pair.generation;
+    let Pair { auth, generation } = next_pair(keys, value);
     units::set_step(keys, 1);
     units::set_next_pair(keys, auth, generation);
     seal::seal_record(keys);
 }
 
 // Change: the next pair becomes the pair; next and working keys, mask and step are zero.
-fn change(keys: &mut [u8])
-    requires { length keys.old ≡ 512 }
+fn change(keys: &mut Record)
     ensures { keys.new ≡ changed keys.old }
 {
-    let auth = units::next_auth_key_of(&keys[..]);
-    let generation = units::next_gen_key_of(&keys[..]);
+    let auth = units::next_auth_key_of(keys);
+    let generation = units::next_gen_key_of(keys);
     units::set_mask(keys, 0);
     units::set_step(keys, 0);
     units::set_pair(keys, auth, generation);
@@ -131,21 +112,17 @@ fn change(keys: &mut [u8])
 }
 
 // What the page makes of a key set, with a list that nothing is wrong with. A page that is none of the three leaves it alone.
-pub fn set_keys(keys: &mut [u8], page: u32, list: &[u8])
-    requires { (length keys.old ≡ 512) × (length list.now ≡ total_of page) × (wrong_list page list.now ≡ false) }
-    ensures { keys.new ≡ new_keys page list.now keys.old }
+pub fn set_keys(keys: &mut Record, page: u32, list: &[u8])
+    requires { (length list.now ≡ total_of page) × (wrong_list page list.now ≡ false) }
+    ensures set { keys.new ≡ new_keys page list.now keys.old }
+    ensures whole { length keys.new ≡ 512 }
 {
-    let f = front_of(page, list);
-    match page {
-        model::SET_KEY => {
-            let seed = run_of(list, f.run, 20);
-            set_key(keys, KeyVersion(f.first), seed)
-        }
-        model::SEED_EXCHANGE => {
-            let value = run_of(list, f.run, 256);
-            exchange(keys, value)
-        }
-        model::CHANGE_MASTER => change(keys),
-        _ => {}
+    match Parameters::read(page, list) {
+        Ok(Parameters::Key(new)) => set_key(keys, new.version, new.seed),
+        Ok(Parameters::Exchange { value }) => exchange(keys, value),
+        Ok(Parameters::Change) => change(keys),
+        // These are no keys, and nothing is wrong with the list.
+        Ok(Parameters::Attributes(_)) => {}
+        Err(Wrong) => {}
     }
 }

@@ -1,8 +1,9 @@
-// The In pages, byte by byte, and the one cut of a reply.
-ghost use Rattle.std.specs.Prelude.{◌≡◌, ◌≤◌, ◌<◌, min, length, get_or, take};
+// The In pages, to the byte, and the one cut of a reply.
+ghost use Rattle.std.specs.Prelude.{◌≡◌, ◌≤◌, length, take};
 ghost use Rattle.wire.specs.Bytes.{patch};
-ghost use Rattle.pages.specs.In.{supported_in, supported_out, capabilities, attributes_page, controlled_page, in_page, reply_of};
-ghost use Rattle.pages.specs.In.{size_of};
+ghost use Rattle.pages.specs.In.{attributes_page, controlled_page, reply_of};
+
+use seal::Record;
 
 // The pages that IN has, under 0000h.
 const SUPPORTED_IN: [u8; 16] = [
@@ -20,116 +21,56 @@ const CAPABILITIES: [u8; 20] = [
     0x00, 0x01, 0x00, 0x0E,
 ];
 
+// The head of 0011h: code and length.
+const ATTRIBUTES_HEAD: [u8; 4] = [0x00, 0x11, 0x00, 0x08];
+
 // The head of 0013h: code and length.
 const CONTROLLED_HEAD: [u8; 4] = [0x00, 0x13, 0x00, 0xBA];
 
-fn supported_in_at(i: usize) -> u8
-    ensures { result ≡ get_or supported_in i 0 }
-{
-    if i < 16 { SUPPORTED_IN[i] } else { 0 }
-}
-
-fn supported_out_at(i: usize) -> u8
-    ensures { result ≡ get_or supported_out i 0 }
-{
-    if i < 12 { SUPPORTED_OUT[i] } else { 0 }
-}
-
-fn capabilities_at(i: usize) -> u8
-    ensures { result ≡ get_or capabilities i 0 }
-{
-    if i < 20 { CAPABILITIES[i] } else { 0 }
-}
-
-fn controlled_page_at(i: usize) -> u8
-    ensures { result ≡ get_or controlled_page i 0 }
-{
-    if i < 4 {
-        CONTROLLED_HEAD[i]
-    } else {
-        model::controlled_at(i - 4)
-    }
-}
-
 // 0011h, of the unit's record and that of its key set.
-fn attributes_at(own: &[u8], keys: &[u8], i: usize) -> u8
-    ensures { result ≡ get_or (attributes_page own.now keys.now) i 0 }
+fn attributes_page(own: &[u8], keys: &[u8]) -> [u8; 12]
+    ensures { result ≡ attributes_page own.now keys.now }
 {
-    let method = units::method_of(own);
-    let tag = units::tag_of(own);
+    let mut page = [0; 12];
+    wire::put(&mut page, 0, &ATTRIBUTES_HEAD);
+    wire::put(&mut page, 4, &wire::bytes_of::<2>(units::method_of(own)));
+    wire::put(&mut page, 6, &wire::bytes_of::<4>(units::tag_of(own)));
     let mask = units::mask_of(keys);
-    let page = [
-        0x00,
-        0x11,
-        0x00,
-        0x08,
-        (method / 256 % 256) as u8,
-        (method % 256) as u8,
-        (tag / 256 / 256 / 256 % 256) as u8,
-        (tag / 256 / 256 % 256) as u8,
-        (tag / 256 % 256) as u8,
-        (tag % 256) as u8,
-        (mask / 256 % 256) as u8,
-        (mask % 256) as u8,
-    ];
-    if i < 12 { page[i] } else { 0 }
+    wire::put(&mut page, 10, &wire::bytes_of::<2>(mask));
+    page
 }
 
-// The byte at i of a page, 0 past its end.
-fn page_at(page: u32, own: &[u8], keys: &[u8], i: usize) -> u8
-    ensures { result ≡ get_or (in_page page own.now keys.now) i 0 }
+// 0013h: the head, and the rows behind it.
+fn controlled_page() -> [u8; 190]
+    ensures { result ≡ controlled_page }
 {
-    match page {
-        model::PAGES_OF_IN => supported_in_at(i),
-        model::PAGES_OF_OUT => supported_out_at(i),
-        model::CAPABILITIES_IN => capabilities_at(i),
-        model::ATTRIBUTES_IN => attributes_at(own, keys, i),
-        model::CONTROLLED_IN => controlled_page_at(i),
-        _ => 0,
-    }
+    let mut page = [0; 190];
+    wire::put(&mut page, 0, &CONTROLLED_HEAD);
+    wire::put(&mut page, 4, model::controlled_rows());
+    page
 }
 
-// How many bytes a page has.
-fn page_size(page: u32) -> u32
-    ensures { result ≡ size_of page }
+// Writes as many bytes of a page as the allocation length asks for at the front of the reply, and says how many that is.
+fn cut_into(reply: &mut Record, page: &[u8], allocation: u32) -> u32
+    requires { length page.now ≤ 512 }
+    ensures { (result ≡ length (take allocation page.now)) × (reply.new ≡ patch reply.old 0 (take allocation page.now)) }
 {
-    match page {
-        model::PAGES_OF_IN => 16,
-        model::PAGES_OF_OUT => 12,
-        model::CAPABILITIES_IN => 20,
-        model::ATTRIBUTES_IN => 12,
-        model::CONTROLLED_IN => 190,
-        _ => 0,
-    }
+    let count = page.len().min(allocation as usize);
+    wire::put(reply, 0, &page[..count]);
+    count as u32
 }
 
-// How many of them are replied: the smaller of page size and allocation length.
-fn page_count(page: u32, allocation: u32) -> u32
-    ensures { result ≡ min allocation (size_of page) }
-{
-    let size = page_size(page);
-    if size <= allocation { size } else { allocation }
-}
-
-// Writes the first count bytes of a page into the reply.
-fn write_page(reply: &mut [u8], page: u32, own: &[u8], keys: &[u8], count: u32)
-    requires { (length reply.old ≡ 512) × (count ≤ size_of page) }
-    ensures { reply.new ≡ patch reply.old 0 (take count (in_page page own.now keys.now)) }
-{
-    let n = count as usize;
-    let mut i = 0;
-    while i < n {
-        reply[i] = page_at(page, own, keys, i);
-        i += 1;
-    }
-}
-
-// Writes what a unit with that record and key set replies, cut once, and says how many bytes that is.
-pub fn reply(reply: &mut [u8], page: u32, allocation: u32, own: &[u8], keys: &[u8]) -> u32
-    requires { length reply.old ≡ 512 }
+// Writes what a unit with that record and key set replies, cut once, and says how many bytes that is. An enum of pages would be made only
+// to be matched here: a page is the number that the CDB names, whatever it is.
+pub fn reply(reply: &mut Record, page: u32, allocation: u32, own: &[u8], keys: &[u8]) -> u32
     ensures { (result ≡ length (reply_of page allocation own.now keys.now)) × (reply.new ≡ patch reply.old 0 (reply_of page allocation own.now keys.now)) }
 {
-    let count = page_count(page, allocation);
-    write_page(reply, page, own, keys, count);
-    count
+    match page {
+        model::PAGES_OF_IN => cut_into(reply, &SUPPORTED_IN, allocation),
+        model::PAGES_OF_OUT => cut_into(reply, &SUPPORTED_OUT, allocation),
+        model::CAPABILITIES_IN => cut_into(reply, &CAPABILITIES, allocation),
+        model::ATTRIBUTES_IN => cut_into(reply, &attributes_page(own, keys), allocation),
+        model::CONTROLLED_IN => cut_into(reply, &controlled_page(), allocation),
+        _ => 0,
+    }
 }

@@ -16,12 +16,10 @@ use Rattle.choice.specs.ChoiceLaws.{pick_cases, both_true}
 use Rattle.wire.specs.Bytes.{patch}
 use Rattle.model.specs.Answers.{is_a, is_final, slot_in, is_malformed}
 use Rattle.model.proofs.AnswerLaws.{final_not_parked}
-use Rattle.model.specs.declared.SlotNo.{SlotNo}
 use Rattle.model.specs.declared.Answer.{Answer}
 use Rattle.model.specs.declared.Answer.TheVariants.{Good, Parked, Full, H1, H2, H3}
 use Rattle.slots.specs.Slot.{slot_at, slot_state_of, is_free, is_open, right_token, free_from, lowest_free, freed, all_freed}
-use Rattle.slots.specs.declared.Found.{Found}
-use Rattle.slots.specs.declared.Found.TheVariants.{At, Nothing}
+use Rattle.std.specs.Prelude.{Option as Maybe, Some, None}
 use Rattle.slots.specs.declared.SlotState.{SlotState}
 use Rattle.slots.specs.declared.SlotState.TheVariants.{Free, Open, Unsound}
 use Rattle.calls.specs.Outcome.{leaves, Tables, tables, Lent, lent, Outcome, gives, on_slots, rightly_lent}
@@ -112,9 +110,9 @@ module _ (t : Tables) (ledger : Ledger) (fit : Fits t ledger) where
     abbrev x : Expected
     x = open_expected t.units ledger k clock reply
 
-    by_slot : (f : Found) → says (parked_at f) reply ≡ x → gives a (lent n r) ≡ on_slots (lent t reply) (parked_in t.slots k f) → As x a r
-    by_slot (At s) h e = as_known a (Parked s) r reply n _ x e h
-    by_slot Nothing h e = as_known a Full r reply n t x e h
+    by_slot : (f : Maybe ℕ) → says (parked_at f) reply ≡ x → gives a (lent n r) ≡ on_slots (lent t reply) (parked_in t.slots k f) → As x a r
+    by_slot (Some s) h e = as_known a (Parked (record { 0 = s })) r reply n _ x e h
+    by_slot None h e = as_known a Full r reply n t x e h
 
     open_as : Meets t (opens k clock reply) a r n → As x a r
     unfolding open_expected
@@ -201,14 +199,14 @@ waits units ledger resets x c e f h = no_true (sym c)
 
 -- ---- what is parked stays
 
-from_least : (n i : ℕ) (ledger : Ledger) (s : SlotNo) → vacant_from n i ledger ≡ At s → is_vacant (ledger s.0) ≡ true
+from_least : (n i : ℕ) (ledger : Ledger) (s : ℕ) → vacant_from n i ledger ≡ Some s → is_vacant (ledger s) ≡ true
 unfolding vacant_from
 from_least zero i ledger s e = let z : ◌≡◌ {A = ℕ} 0 1 = cc in absurd (omega arith)
 from_least (suc n) i ledger s e = by_entry_lem (is_vacant (ledger i)) refl e (from_least n (i + 1) ledger s)
   where
-    by_entry_lem : (b : Bool) → is_vacant (ledger i) ≡ b → pick b (At (record { 0 = i })) (vacant_from n (i + 1) ledger) ≡ At s
-        → (vacant_from n (i + 1) ledger ≡ At s → is_vacant (ledger s.0) ≡ true) → is_vacant (ledger s.0) ≡ true
-    by_entry_lem true q h f = let p : s.0 ≡ i = cc in rw (p, q)
+    by_entry_lem : (b : Bool) → is_vacant (ledger i) ≡ b → pick b (Some i) (vacant_from n (i + 1) ledger) ≡ Some s
+        → (vacant_from n (i + 1) ledger ≡ Some s → is_vacant (ledger s) ≡ true) → is_vacant (ledger s) ≡ true
+    by_entry_lem true q h f = let p : s ≡ i = cc in rw (p, q)
     by_entry_lem false q h f = f h
 
 -- an open parks where the ledger has nothing
@@ -225,9 +223,9 @@ open_vacant units ledger k clock reply =
     (λ b e. let o : ◌≡◌ {A = ℕ} 0 1 = cc in absurd (omega arith)))
     (λ a e. let o : ◌≡◌ {A = ℕ} 0 1 = cc in absurd (omega arith))
   where
-    by_slot : (f : Found) → vacant_from 16 0 ledger ≡ f → is_a 1 (parked_at f) ≡ true → is_vacant (ledger (slot_in (parked_at f))) ≡ true
-    by_slot (At s) q e = from_least 16 0 ledger s q
-    by_slot Nothing q e = let o : ◌≡◌ {A = ℕ} 0 1 = cc in absurd (omega arith)
+    by_slot : (f : Maybe ℕ) → vacant_from 16 0 ledger ≡ f → is_a 1 (parked_at f) ≡ true → is_vacant (ledger (slot_in (parked_at f))) ≡ true
+    by_slot (Some s) q e = from_least 16 0 ledger s q
+    by_slot None q e = let o : ◌≡◌ {A = ℕ} 0 1 = cc in absurd (omega arith)
 
 put_other : (ledger : Ledger) (s i : ℕ) (x : Option Asked) (k : Asked) → ledger i ≡ some k → (b : Bool) → eqb i s ≡ b
     → (put ledger s x i ≡ some k) ⊎ (s ≡ i)

@@ -10,8 +10,7 @@ use Rattle.model.proofs.AnswerLaws.{told_apart}
 use Rattle.model.specs.declared.Answer.{Answer}
 use Rattle.model.specs.declared.Answer.TheVariants.{Parked, Full, H1, H2, H3}
 use Rattle.slots.specs.Slot.{slot_at, right_token, lowest_free, freed}
-use Rattle.slots.specs.declared.Found.{Found}
-use Rattle.slots.specs.declared.Found.TheVariants.{At, Nothing}
+use Rattle.std.specs.Prelude.{Option, Some, None}
 use Rattle.judge.specs.Command.{code_of}
 use Rattle.judge.specs.Seen.{seen}
 use Rattle.calls.specs.Outcome.{Lent, lent, tables, Outcome, gives, with_slots, on_slots, rightly_lent}
@@ -50,9 +49,9 @@ module _ (a : Answer) (m : Lent) (final : is_final a ≡ true) where
         (λ h e. not_final H1 l e refl) (λ h g e. not_final H2 l e refl) (λ h g p. by_slot (lowest_free l.tabled.slots))
         (λ h g p e. record { right = h; sized = g; unparked = p; whole_answered = answered_by l (whole l.tabled.units k [] clock) e })
       where
-        by_slot : (f : Found) → gives a m ≡ on_slots l (parked_in l.tabled.slots k f) → Opened
-        by_slot (At s) e = not_final (Parked s) _ e refl
-        by_slot Nothing e = not_final Full l e refl
+        by_slot : (f : Option ℕ) → gives a m ≡ on_slots l (parked_in l.tabled.slots k f) → Opened
+        by_slot (Some s) e = not_final (Parked (record { 0 = s })) _ e refl
+        by_slot None e = not_final Full l e refl
 
   module _ (l : Lent) (s : ℕ) (d : List ℕ) (clock : ℕ) where
     pub record Closed : Type 0 where

@@ -12,12 +12,10 @@ use Rattle.choice.specs.ChoiceLaws.{pick_cases, both_true}
 use Rattle.model.specs.Codes.{data_out}
 use Rattle.model.specs.Answers.{is_a}
 use Rattle.model.proofs.AnswerLaws.{final_not_full}
-use Rattle.model.specs.declared.SlotNo.{SlotNo}
 use Rattle.model.specs.declared.Answer.{Answer}
 use Rattle.model.specs.declared.Answer.TheVariants.{Full}
 use Rattle.slots.specs.Slot.{right_token}
-use Rattle.slots.specs.declared.Found.{Found}
-use Rattle.slots.specs.declared.Found.TheVariants.{At, Nothing}
+use Rattle.std.specs.Prelude.{Option as Maybe, Some, None}
 use Rattle.judge.specs.Command.{code_of}
 use Rattle.calls.specs.Outcome.{Tables}
 use Rattle.calls.specs.Whole.{Asked, whole}
@@ -31,7 +29,7 @@ use Rattle.runs.proofs.EachStep.{each_step}
 -- ---- no slot is vacant exactly where the search finds none
 
 none_vacant : (n i : ℕ) (ledger : Ledger) → ((j : ℕ) → i ≤ j → j < i + n → (k : Asked) × (ledger j ≡ some k))
-    → vacant_from n i ledger ≡ Nothing
+    → vacant_from n i ledger ≡ None
 unfolding vacant_from
 none_vacant zero i ledger h = refl
 none_vacant (suc n) i ledger h =
@@ -42,23 +40,23 @@ held_entry : (o : Option Asked) → is_vacant o ≡ false → (k : Asked) × (o 
 held_entry none e = let z : ◌≡◌ {A = ℕ} 0 1 = cc in absurd (omega arith)
 held_entry (some k) e = (k, refl)
 
-not_vacant : (b : Bool) (s : SlotNo) (f : Found) → pick b (At s) f ≡ Nothing → (b ≡ false) × (f ≡ Nothing)
+not_vacant : (b : Bool) (s : ℕ) (f : Maybe ℕ) → pick b (Some s) f ≡ None → (b ≡ false) × (f ≡ None)
 not_vacant true s f e = let z : ◌≡◌ {A = ℕ} 0 1 = cc in absurd (omega arith)
 not_vacant false s f e = (refl, e)
 
-all_held : (n i : ℕ) (ledger : Ledger) → vacant_from n i ledger ≡ Nothing → (j : ℕ) → i ≤ j → j < i + n → (k : Asked) × (ledger j ≡ some k)
+all_held : (n i : ℕ) (ledger : Ledger) → vacant_from n i ledger ≡ None → (j : ℕ) → i ≤ j → j < i + n → (k : Asked) × (ledger j ≡ some k)
 unfolding vacant_from
 all_held zero i ledger e j a b = absurd (omega arith)
 all_held (suc n) i ledger e j a b =
-    let p = not_vacant (is_vacant (ledger i)) (record { 0 = i }) (vacant_from n (i + 1) ledger) e in
+    let p = not_vacant (is_vacant (ledger i)) i (vacant_from n (i + 1) ledger) e in
     ⊎_elim (λ q. let x = held_entry (ledger i) p.0 in (x.0, ap ledger (sym q) ∙ x.1)) (λ g. all_held n (i + 1) ledger p.1 j (omega arith) (omega arith)) (eq-or-lt_of_le a)
 
 -- ---- what the answer of an open tells
 
 module _ (units : List ℕ) (ledger : Ledger) (k : Asked) (clock : ℕ) (reply : List ℕ) where
-  full_none : (f : Found) → is_a 4 (parked_at f) ≡ true → f ≡ Nothing
-  full_none (At s) e = let z : ◌≡◌ {A = ℕ} 0 1 = cc in absurd (omega arith)
-  full_none Nothing e = refl
+  full_none : (f : Maybe ℕ) → is_a 4 (parked_at f) ≡ true → f ≡ None
+  full_none (Some s) e = let z : ◌≡◌ {A = ℕ} 0 1 = cc in absurd (omega arith)
+  full_none None e = refl
 
   full_only : is_a 4 (open_expected units ledger k clock reply).answer ≡ true → Passes units k clock reply × NoneFree ledger
   unfolding open_expected least_vacant

@@ -17,8 +17,7 @@ use Rattle.slots.specs.Slot.{slot_at, slot_unit, right_token, lowest_free, freed
 use Rattle.slots.proofs.SlotLaws.{token_is}
 use Rattle.slots.proofs.SearchLaws.{lowest}
 use Rattle.slots.proofs.RoundLaws.{parked_other}
-use Rattle.slots.specs.declared.Found.{Found}
-use Rattle.slots.specs.declared.Found.TheVariants.{At, Nothing}
+use Rattle.std.specs.Prelude.{Option, Some, None}
 use Rattle.judge.specs.Command.{code_of}
 use Rattle.judge.specs.Seen.{seen}
 use Rattle.judge.proofs.JudgementLaws.{open_passed}
@@ -77,17 +76,17 @@ module _ (l : Lent) (k : Asked) (clock : ℕ) where
   all_kept a = record { units = refl; others = λ j n. refl; slots = λ f. refl; reply = refl }
 
   by_slot : rightly_lent l ≡ true → right_token (length k.token) ≡ true → parks l.tabled.units k clock ≡ true
-      → (f : Found) → lowest_free l.tabled.slots ≡ f → (a : Answer) (m : Lent) → gives a m ≡ on_slots l (parked_in l.tabled.slots k f)
+      → (f : Option ℕ) → lowest_free l.tabled.slots ≡ f → (a : Answer) (m : Lent) → gives a m ≡ on_slots l (parked_in l.tabled.slots k f)
       → LeftByOpen l m a
-  by_slot h g p Nothing f a m e = told (LeftByOpen l) m l a Full e (all_kept Full)
-  by_slot h g p (At s) f a m e =
+  by_slot h g p None f a m e = told (LeftByOpen l) m l a Full e (all_kept Full)
+  by_slot h g p (Some s) f a m e =
       let q = both_true (eqb (reason_at_open l.tabled.units k clock) 0) (data_out (code_of k.command)) p in
       let o = open_passed (seen l.tabled.units k.unit) k.command k.token clock (eqb-true _ 0 q.0) in
       let n = legal_small (code_of k.command) (length k.command) o.legal in
       let other =
-      parked_other s.0 k.unit k.command k.token l.tabled.slots (omega arith) (token_is _ g).1 (lengths_are _ _ _ h).1
+      parked_other s k.unit k.command k.token l.tabled.slots (omega arith) (token_is _ g).1 (lengths_are _ _ _ h).1
       (lowest l.tabled.slots s f).0 in
-      told (LeftByOpen l) m _ a (Parked s) e
+      told (LeftByOpen l) m _ a (Parked (record { 0 = s })) e
       (record {
         units = refl;
         others = λ j ne. other j (ne refl);

@@ -6,8 +6,7 @@ use Rattle.choice.specs.ChoiceLaws.{pick_holds}
 use Rattle.model.specs.declared.Answer.{Answer}
 use Rattle.model.specs.declared.Answer.TheVariants.{Good, Parked, Full, H1, H2, H3}
 use Rattle.slots.specs.Slot.{slot_at, lowest_free}
-use Rattle.slots.specs.declared.Found.{Found}
-use Rattle.slots.specs.declared.Found.TheVariants.{At, Nothing}
+use Rattle.std.specs.Prelude.{Option, Some, None}
 use Rattle.calls.specs.Outcome.{TableOutcome, leaves, Tables, tables, Lent, lent, Outcome, gives, on_slots, rightly_lent}
 use Rattle.calls.proofs.OutcomeLaws.{one_table, one_outcome}
 use Rattle.calls.specs.Build.{build_out}
@@ -45,9 +44,9 @@ open_answers l k clock =
     open_by l k clock Given (λ h. (H1, l, refl)) (λ h g. (H2, l, refl)) (λ h g p. by_slot (lowest_free l.tabled.slots))
     (λ h g p. ((whole l.tabled.units k [] clock).answer, _, refl))
   where
-    by_slot : (f : Found) → Given (on_slots l (parked_in l.tabled.slots k f))
-    by_slot (At s) = (Parked s, _, refl)
-    by_slot Nothing = (Full, l, refl)
+    by_slot : (f : Option ℕ) → Given (on_slots l (parked_in l.tabled.slots k f))
+    by_slot (Some s) = (Parked (record { 0 = s }), _, refl)
+    by_slot None = (Full, l, refl)
 
 close_answers : (l : Lent) (s : ℕ) (d : List ℕ) (clock : ℕ) → Given (close_out l s d clock)
 close_answers l s d clock =

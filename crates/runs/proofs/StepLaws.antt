@@ -15,7 +15,6 @@ use Rattle.model.specs.Codes.{data_out, legal_len}
 use Rattle.model.proofs.CodeLaws.{legal_small}
 use Rattle.model.specs.Answers.{is_a, is_final, count_in}
 use Rattle.model.proofs.AnswerLaws.{final_not_parked}
-use Rattle.model.specs.declared.SlotNo.{SlotNo}
 use Rattle.model.specs.declared.Answer.{Answer}
 use Rattle.model.specs.declared.Answer.TheVariants.{Good, Parked, Full, H1, H2, H3}
 use Rattle.slots.specs.Slot.{slot_at, slot_state_of, slot_token, right_token, token_length, open_record, lowest_free, parked, freed, all_freed}
@@ -23,8 +22,7 @@ use Rattle.slots.proofs.SlotLaws.{record_free, open_sound, token_is}
 use Rattle.slots.proofs.SearchLaws.{lowest}
 use Rattle.slots.proofs.RoundLaws.{open_unit, open_command, open_token, parked_open, parked_length, parked_here, parked_other}
 use Rattle.slots.proofs.TableLaws.{freed_length, freed_here, freed_other, all_freed_length, all_freed_lem}
-use Rattle.slots.specs.declared.Found.{Found}
-use Rattle.slots.specs.declared.Found.TheVariants.{At, Nothing}
+use Rattle.std.specs.Prelude.{Option as Maybe, Some, None}
 use Rattle.slots.specs.declared.SlotState.TheVariants.{Open}
 use Rattle.judge.specs.Command.{code_of}
 use Rattle.judge.specs.Seen.{seen}
@@ -175,8 +173,8 @@ module _ (t : Tables) (ledger : Ledger) (fit : Fits t ledger) where
     quiet : (a : Answer) → is_final a ≡ false → count_in a ≡ 0 → is_a 1 a ≡ false → Stepped t ledger (opens k clock reply) a reply t
     quiet a f z e = record { fits = rw e fit; singly = rw f; counted = rw f; reply_kept = none_written reply (count_in a) z }
 
-    parked_step : right_token (length k.token) ≡ true → parks t.units k clock ≡ true → (s : SlotNo) → lowest_free t.slots ≡ At s
-        → Stepped t ledger (opens k clock reply) (Parked s) reply (tables t.units (parked s.0 k.unit k.command k.token t.slots))
+    parked_step : right_token (length k.token) ≡ true → parks t.units k clock ≡ true → (s : ℕ) → lowest_free t.slots ≡ Some s
+        → Stepped t ledger (opens k clock reply) (Parked (record { 0 = s })) reply (tables t.units (parked s k.unit k.command k.token t.slots))
     parked_step sized p s f =
         let q = both_true (eqb (reason_at_open t.units k clock) 0) (data_out (code_of k.command)) p in
         let o = open_passed (seen t.units k.unit) k.command k.token clock (eqb-true _ 0 q.0) in
@@ -189,12 +187,12 @@ module _ (t : Tables) (ledger : Ledger) (fit : Fits t ledger) where
           fits =
               record {
                 units_length = fit.units_length;
-                slots_length = parked_length s.0 k.unit k.command k.token t.slots fits-100 w.1 fit.slots_length h;
+                slots_length = parked_length s k.unit k.command k.token t.slots fits-100 w.1 fit.slots_length h;
                 agrees =
-                    agrees_put t.slots _ ledger s.0 (some k)
-                    (ap view (parked_here s.0 k.unit k.command k.token t.slots fits-100 w.1 fit.slots_length h)
+                    agrees_put t.slots _ ledger s (some k)
+                    (ap view (parked_here s k.unit k.command k.token t.slots fits-100 w.1 fit.slots_length h)
                     ∙ view_parked k.unit k.command k.token (omega arith) w.0 w.1 q.1 o.legal)
-                    (parked_other s.0 k.unit k.command k.token t.slots fits-100 w.1 fit.slots_length h) fit.agrees;
+                    (parked_other s k.unit k.command k.token t.slots fits-100 w.1 fit.slots_length h) fit.agrees;
               };
           singly = refl;
           counted = refl;
@@ -202,10 +200,10 @@ module _ (t : Tables) (ledger : Ledger) (fit : Fits t ledger) where
         }
 
     by_slot : (a : Answer) (r : List ℕ) (n : Tables) → right_token (length k.token) ≡ true → parks t.units k clock ≡ true
-        → (f : Found) → lowest_free t.slots ≡ f
+        → (f : Maybe ℕ) → lowest_free t.slots ≡ f
         → gives a (lent n r) ≡ on_slots (lent t reply) (parked_in t.slots k f) → Stepped t ledger (opens k clock reply) a r n
-    by_slot a r n sized p (At s) f e = told t ledger (opens k clock reply) a (Parked s) r reply n _ e (parked_step sized p s f)
-    by_slot a r n sized p Nothing f e = told t ledger (opens k clock reply) a Full r reply n t e (quiet Full refl refl refl)
+    by_slot a r n sized p (Some s) f e = told t ledger (opens k clock reply) a (Parked (record { 0 = s })) r reply n _ e (parked_step sized p s f)
+    by_slot a r n sized p None f e = told t ledger (opens k clock reply) a Full r reply n t e (quiet Full refl refl refl)
 
     pub open_step : (a : Answer) (r : List ℕ) (n : Tables) → gives a (lent n r) ≡ open_out (lent t reply) k clock
         → Stepped t ledger (opens k clock reply) a r n

@@ -11,14 +11,13 @@ use Rattle.seal.specs.Seal.{blank_record}
 use Rattle.seal.specs.BlankLaws.{record_length}
 use Rattle.model.specs.Codes.{data_out}
 use Rattle.model.proofs.CodeLaws.{legal_small}
-use Rattle.model.specs.declared.SlotNo.{SlotNo}
 use Rattle.model.specs.declared.Answer.TheVariants.{Parked}
 use Rattle.slots.specs.Slot.{slot_at, slot_state_of, is_free, right_token, open_record, lowest_free, parked, freed}
 use Rattle.slots.proofs.SlotLaws.{free_blank, token_is}
 use Rattle.slots.proofs.SearchLaws.{lowest}
 use Rattle.slots.proofs.RoundLaws.{open_length, parked_open, parked_length, parked_here}
 use Rattle.slots.proofs.TableLaws.{slot_length}
-use Rattle.slots.specs.declared.Found.TheVariants.{At}
+use Rattle.std.specs.Prelude.{Some}
 use Rattle.judge.specs.Command.{code_of}
 use Rattle.judge.specs.Seen.{seen}
 use Rattle.judge.proofs.JudgementLaws.{Passed, open_passed}
@@ -72,15 +71,15 @@ pub whole_opened : (l : Lent) (k : Asked) (d : List ℕ) (clock : ℕ) → right
 unfolding open_out judged_out
 whole_opened l k d clock right sized p = rw (right, sized, p) (ap (answered l) (open_whole l.tabled.units k d clock p))
 
-module _ (l : Lent) (k : Asked) (d : List ℕ) (clock : ℕ) (s : SlotNo) (right : rightly_lent l ≡ true)
-    (sized : right_token (length k.token) ≡ true) (free : lowest_free l.tabled.slots ≡ At s) where
+module _ (l : Lent) (k : Asked) (d : List ℕ) (clock : ℕ) (s : ℕ) (right : rightly_lent l ≡ true)
+    (sized : right_token (length k.token) ≡ true) (free : lowest_free l.tabled.slots ≡ Some s) where
   -- what is lent while the command waits for its data
   abbrev pub waiting : Lent
-  waiting = with_slots (parked s.0 k.unit k.command k.token l.tabled.slots) l
+  waiting = with_slots (parked s k.unit k.command k.token l.tabled.slots) l
 
   module _ (p : parks l.tabled.units k clock ≡ true) where
     -- one that parks takes the lowest free slot
-    pub whole_parked : open_out l k clock ≡ gives (Parked s) waiting
+    pub whole_parked : open_out l k clock ≡ gives (Parked (record { 0 = s })) waiting
     unfolding open_out judged_out
     whole_parked = rw (right, sized, p, free)
 
@@ -96,7 +95,7 @@ module _ (l : Lent) (k : Asked) (d : List ℕ) (clock : ℕ) (s : SlotNo) (right
     short = let n = legal_small (code_of k.command) (length k.command) passed.legal in omega arith
 
     -- and its close, at once and with the same clock, answers the whole command
-    pub whole_closed : close_out waiting s.0 d clock ≡ answered l (whole l.tabled.units k d clock)
+    pub whole_closed : close_out waiting s d clock ≡ answered l (whole l.tabled.units k d clock)
     unfolding close_out holds
     whole_closed =
         let units = l.tabled.units in
@@ -104,13 +103,13 @@ module _ (l : Lent) (k : Asked) (d : List ℕ) (clock : ℕ) (s : SlotNo) (right
         let t = token_is (length k.token) sized in
         let e = lengths_are _ _ _ right in
         let f = lowest slots s free in
-        let h : s.0 < 16 = f.0 in
+        let h : s < 16 = f.0 in
         let small = passed.small in
-        let here = parked_here s.0 k.unit k.command k.token slots short t.1 e.1 h in
-        let full = parked_length s.0 k.unit k.command k.token slots short t.1 e.1 h in
+        let here = parked_here s k.unit k.command k.token slots short t.1 e.1 h in
+        let full = parked_length s k.unit k.command k.token slots short t.1 e.1 h in
         let right' = lengths_right waiting.tabled l.reply e.0 full ∙ eq-eqb (length l.reply) 512 e.2 in
         let opened = parked_open k.unit k.command k.token (omega arith) t.0 t.1 judged.1 passed.legal in
-        rw (right', le-leb s.0 15 (omega arith), here, opened)
+        rw (right', le-leb s 15 (omega arith), here, opened)
         (ap₂ (λ (x : Asked) (ss : List ℕ). answered (with_slots ss l) (whole units x d clock))
         (held_parked k.unit k.command k.token (omega arith) t.1 passed.legal)
-        (freed_parked s.0 k.unit k.command k.token slots e.1 h short t.1 f.1))
+        (freed_parked s k.unit k.command k.token slots e.1 h short t.1 f.1))

@@ -7,8 +7,7 @@ use Rattle.model.specs.Codes.{data_out}
 use Rattle.model.specs.declared.Answer.{Answer}
 use Rattle.model.specs.declared.Answer.TheVariants.{Good, Parked, Full, H1, H2, H3}
 use Rattle.slots.specs.Slot.{right_token}
-use Rattle.slots.specs.declared.Found.{Found}
-use Rattle.slots.specs.declared.Found.TheVariants.{At, Nothing}
+use Rattle.std.specs.Prelude.{Option as Maybe, Some, None}
 use Rattle.calls.specs.Whole.{Asked, Whole, whole}
 use Rattle.judge.specs.Command.{code_of}
 use Rattle.calls.specs.Open.{reason_at_open, parks}
@@ -30,11 +29,11 @@ is_vacant none = true
 is_vacant (some k) = false
 
 -- the least vacant one of the n slots from i on
-unfoldable pub vacant_from : ℕ → ℕ → Ledger → Found
-vacant_from zero i ledger = Nothing
-vacant_from (suc n) i ledger = pick (is_vacant (ledger i)) (At (record { 0 = i })) (vacant_from n (i + 1) ledger)
+unfoldable pub vacant_from : ℕ → ℕ → Ledger → Maybe ℕ
+vacant_from zero i ledger = None
+vacant_from (suc n) i ledger = pick (is_vacant (ledger i)) (Some i) (vacant_from n (i + 1) ledger)
 
-unfoldable pub least_vacant : Ledger → Found
+unfoldable pub least_vacant : Ledger → Maybe ℕ
 least_vacant ledger = vacant_from 16 0 ledger
 
 -- what the ledger has in slot s, nothing above 15
@@ -47,9 +46,9 @@ entry_at ledger s = pick (leb s 15) (ledger s) none
 abbrev pub of_whole : Whole → List ℕ → Expected
 of_whole w reply = says w.answer (patch reply 0 w.written)
 
-abbrev pub parked_at : Found → Answer
-parked_at (At s) = Parked s
-parked_at Nothing = Full
+abbrev pub parked_at : Maybe ℕ → Answer
+parked_at (Some s) = Parked (record { 0 = s })
+parked_at None = Full
 
 -- an open: H1 for a reply of the wrong length, else H2 for a token of the wrong length; a command that passes and carries data out gets
 -- A1 with the least vacant slot, or A4 where none is; any other its whole command's answer and reply

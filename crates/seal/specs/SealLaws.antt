@@ -52,3 +52,9 @@ checked_same l m hl hm kl km e =
   where
     back : (x : List ℕ) → length x ≡ 512 → same (part 492 20 x) (sha1 (take 492 x)) ≡ true → drop 492 x ≡ sha1 (take 492 x)
     back x h k = sym (take_all 20 (drop 492 x) (rw length-drop (omega arith))) ∙ same_true (part 492 20 x) (sha1 (take 492 x)) k
+
+-- a record written in a table, over the first bytes of what lies behind a
+pub record_put : (table rec front back : List ℕ) (a : ℕ) → front ≡ take a table → back ≡ drop a table → length rec ≡ 512
+    → front ++ (rec ++ drop 512 back) ≡ patch table a rec
+unfolding patch
+record_put table rec front back a ef eb whole = rw (ef, eb, whole)

@@ -1,11 +1,13 @@
 // The check of a record of 512 bytes, and the blank record, whose check is a constant: nothing is hashed to find or make one.
 #![tactic(auto)]
 
-ghost use Rattle.std.specs.Prelude.{◌≡◌, ◌≤◌, length, take, replicate};
-ghost use Rattle.wire.specs.Bytes.{same};
+ghost use Rattle.std.specs.Prelude.{◌≡◌, ◌+◌, ◌*◌, ◌≤◌, take};
+ghost use Rattle.wire.specs.Bytes.{same, part};
 ghost use Rattle.fips180.specs.Sha1.{sha1};
 ghost use Rattle.seal.specs.Seal.{checked, seal, blank_record};
 ghost use Rattle.seal.specs.BlankLaws.{blank_check};
+
+pub type Record = [u8; 512];
 
 // The SHA-1 of 492 zeros.
 const BLANK_CHECK: [u8; 20] = [
@@ -20,59 +22,49 @@ fn blank_check() -> [u8; 20]
 }
 
 // The SHA-1 of bytes 0-491.
-fn check_of(rec: &[u8]) -> [u8; 20]
-    requires { 492 ≤ length rec.now }
+fn check_of(rec: &Record) -> [u8; 20]
     ensures { result ≡ sha1 (take 492 rec.now) }
 {
     fips180::hash(&rec[0..492])
 }
 
 // Are bytes 492-511 the SHA-1 of bytes 0-491?
-pub fn is_checked(rec: &[u8]) -> bool
-    requires { length rec.now ≡ 512 }
+pub fn is_checked(rec: &Record) -> bool
     ensures { result ≡ checked rec.now }
 {
-    let stored = wire::bytes20(rec, 492);
-    let made = check_of(rec);
-    wire::same20(stored, made)
+    wire::same(&wire::array::<20>(rec, 492), &check_of(rec))
 }
 
 // Puts the check of bytes 0-491 into bytes 492-511.
-pub fn seal_record(rec: &mut [u8])
-    requires { length rec.old ≡ 512 }
+pub fn seal_record(rec: &mut Record)
     ensures { rec.new ≡ seal rec.old }
 {
-    let made = check_of(&rec[..]);
+    let made = check_of(rec);
     wire::put(rec, 492, &made);
 }
 
 // Is this the blank record? One in use is told by its check, and the rest of it is not looked at.
-pub fn is_blank(rec: &[u8]) -> bool
-    requires { length rec.now ≡ 512 }
+pub fn is_blank(rec: &Record) -> bool
     ensures { result ≡ same rec.now blank_record }
 {
-    if wire::same20(wire::bytes20(rec, 492), blank_check()) {
-        return wire::are_zeros(rec, 0, 492);
-    }
-    false
-}
-
-// Zeros all over.
-pub fn clear(d: &mut [u8])
-    ensures { d.new ≡ replicate (length d.old) 0 }
-{
-    let mut i = 0;
-    while i < d.len() {
-        d[i] = 0;
-        i += 1;
-    }
+    wire::same(&wire::array::<20>(rec, 492), &blank_check()) && wire::are_zeros(rec, 0, 492)
 }
 
 // Makes the blank record.
-pub fn make_blank(rec: &mut [u8])
-    requires { length rec.old ≡ 512 }
+pub fn make_blank(rec: &mut Record)
     ensures { rec.new ≡ blank_record }
 {
-    clear(rec);
+    rec.fill(0);
     wire::put(rec, 492, &blank_check());
+}
+
+// The record at place i of a table of records. One to be written is lent at each place, by
+// `split_at_mut` and `first_chunk_mut`: a function that lends it on was tried, and its proof did not close.
+pub fn record_at<const N: usize>(table: &[u8; N], i: usize) -> &Record
+    requires { i * 512 + 512 ≤ N }
+    ensures { result.now ≡ part (i * 512) 512 table.now }
+{
+    let all = &table[..];
+    let a = i * 512;
+    all[a..a + 512].as_array().unwrap()
 }

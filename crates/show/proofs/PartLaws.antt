@@ -1,6 +1,6 @@
 -- Laws of the parts: how the lowest wrong key is searched for; the part that is named fails, and one is named exactly where the record is
 -- unsound.
-use Rattle.std.specs.Prelude.{◌≡◌, refl, Bool, false, List, eqb, leb, get_or}
+use Rattle.std.specs.Prelude.{◌≡◌, refl, Bool, false, Option, Some, None, List, eqb, leb, get_or}
 use Rattle.std.proofs.Common.{◌∙◌, sym, eqb-true}
 use Rattle.std.proofs.Math.Path.{ap}
 use Rattle.std.proofs.Math.Bool.{true, not}
@@ -19,7 +19,7 @@ use Rattle.units.specs.Unit.{keeper_of, keeps_keys, kept_state, unit_state}
 use Rattle.slots.specs.declared.SlotState.TheVariants.{Free, Open, Unsound as UnsoundSlot}
 use Rattle.slots.specs.Slot.{state_number, slot_unit, command_length, token_length, right_token, open_shape, slot_state_of}
 use Rattle.show.specs.declared.UnitPart.{UnitPart}
-use Rattle.show.specs.declared.UnitPart.TheVariants.{Nothing, Check, Layout, Place, Method, Step, NextPair, Key, Unnamed, Keeper}
+use Rattle.show.specs.declared.UnitPart.TheVariants.{Check, Layout, Place, Method, Step, NextPair, Key, Unnamed, Keeper}
 use Rattle.show.specs.declared.SlotPart.{SlotPart}
 use Rattle.show.specs.declared.SlotPart.TheVariants as Slot
 use Rattle.show.specs.Parts.{key_wrong, wrong_key, tail_part, record_part, is_unsound_unit, unit_part, space_part, open_part, is_unsound_slot}
@@ -75,17 +75,17 @@ found_wrong l w = found_further 16 0 l refl w
 -- ---- the part that is named fails, and one is named exactly where the record is unsound
 
 -- does the part fail, of unit u in its table?
-abbrev pub fails : List ℕ → ℕ → UnitPart → Bool
-fails units u Nothing = false
-fails units u Check = not (checked (unit_at u units))
-fails units u Layout = not (eqb (layout (unit_at u units)) 1)
-fails units u Place = not (eqb (unit_number (unit_at u units)) u)
-fails units u Method = not (leb (method (unit_at u units)) 1)
-fails units u Step = not (leb (step (unit_at u units)) 1)
-fails units u NextPair = not (either (eqb (step (unit_at u units)) 1) (next_pair_zero (unit_at u units)))
-fails units u (Key v) = key_wrong v.0 (unit_at u units)
-fails units u Unnamed = not (unnamed_zero (unit_at u units))
-fails units u Keeper = not (both (keeper_shape (unit_at u units)) (keeps_keys units (keeper_of units u)))
+abbrev pub fails : List ℕ → ℕ → Option UnitPart → Bool
+fails units u None = false
+fails units u (Some Check) = not (checked (unit_at u units))
+fails units u (Some Layout) = not (eqb (layout (unit_at u units)) 1)
+fails units u (Some Place) = not (eqb (unit_number (unit_at u units)) u)
+fails units u (Some Method) = not (leb (method (unit_at u units)) 1)
+fails units u (Some Step) = not (leb (step (unit_at u units)) 1)
+fails units u (Some NextPair) = not (either (eqb (step (unit_at u units)) 1) (next_pair_zero (unit_at u units)))
+fails units u (Some (Key v)) = key_wrong v (unit_at u units)
+fails units u (Some Unnamed) = not (unnamed_zero (unit_at u units))
+fails units u (Some Keeper) = not (both (keeper_shape (unit_at u units)) (keeps_keys units (keeper_of units u)))
 
 -- of a record that is unsound though all but the keeper holds
 kept_out : (z s k : Bool) → is_unsound_unit (kept_state k (pick z Unused (pick (both s true) Used Unsound))) ≡ true → not (both s k) ≡ true
@@ -98,16 +98,16 @@ module _ (units : List ℕ) (u : ℕ) (e : is_unsound_unit (unit_state units u) 
   keeper_fails : checked (unit_at u units) ≡ true → eqb (layout (unit_at u units)) 1 ≡ true → eqb (unit_number (unit_at u units)) u ≡ true
       → leb (method (unit_at u units)) 1 ≡ true → leb (step (unit_at u units)) 1 ≡ true
       → either (eqb (step (unit_at u units)) 1) (next_pair_zero (unit_at u units)) ≡ true → keys_zero 16 (unit_at u units) ≡ true
-      → unnamed_zero (unit_at u units) ≡ true → fails units u Keeper ≡ true
+      → unnamed_zero (unit_at u units) ≡ true → fails units u (Some Keeper) ≡ true
   unfolding unit_state unit_state_of used_shape
   keeper_fails a b c d f g h i =
       kept_out (zeros 492 0 (unit_at u units)) (keeper_shape (unit_at u units)) (keeps_keys units (keeper_of units u))
       (rw (a, b, c, d, f, g, h, i) at e)
 
-  record_fails : fails units u (record_part u (unit_at u units)) ≡ true
+  record_fails : fails units u (Some (record_part u (unit_at u units))) ≡ true
   unfolding record_part tail_part
   record_fails =
-      let P : UnitPart → Type 0 = λ (part : UnitPart). fails units u part ≡ true in
+      let P : UnitPart → Type 0 = λ (part : UnitPart). fails units u (Some part) ≡ true in
       pick_cases P (checked (unit_at u units)) _ Check
       (λ a. pick_cases P (eqb (layout (unit_at u units)) 1) _ Layout
       (λ b. pick_cases P (eqb (unit_number (unit_at u units)) u) _ Place
@@ -126,28 +126,28 @@ module _ (units : List ℕ) (u : ℕ) (e : is_unsound_unit (unit_state units u) 
   unit_fails = rw e record_fails
 
 -- and one is named exactly where the record is unsound
-pub unit_named : (units : List ℕ) (u : ℕ) → (unit_part units u ≡ Nothing → is_unsound_unit (unit_state units u) ≡ false)
-    × (is_unsound_unit (unit_state units u) ≡ false → unit_part units u ≡ Nothing)
+pub unit_named : (units : List ℕ) (u : ℕ) → (unit_part units u ≡ None → is_unsound_unit (unit_state units u) ≡ false)
+    × (is_unsound_unit (unit_state units u) ≡ false → unit_part units u ≡ None)
 unfolding unit_part
 unit_named units u = (λ n. by_state (is_unsound_unit (unit_state units u)) refl n, λ e. rw e)
   where
-    by_state : (b : Bool) → is_unsound_unit (unit_state units u) ≡ b → pick b (record_part u (unit_at u units)) Nothing ≡ Nothing → b ≡ false
+    by_state : (b : Bool) → is_unsound_unit (unit_state units u) ≡ b → pick b (Some (record_part u (unit_at u units))) None ≡ None → b ≡ false
     by_state true e n = sym (record_fails units u e) ∙ ap (fails units u) n
     by_state false e n = refl
 
 -- ---- the same of a slot's record
 
 -- does the part fail?
-abbrev pub slot_fails : List ℕ → SlotPart → Bool
-slot_fails l Slot.Nothing = false
-slot_fails l Slot.Check = not (checked l)
-slot_fails l Slot.State = not (eqb (state_number l) 1)
-slot_fails l Slot.Unit = not (leb (slot_unit l) 7)
-slot_fails l Slot.TokenLength = not (right_token (token_length l))
-slot_fails l Slot.Command = not (both (data_out (get_or l 8 0)) (legal_len (get_or l 8 0) (command_length l)))
-slot_fails l Slot.PastCommand = not (zeros (100 - command_length l) (8 + command_length l) l)
-slot_fails l Slot.PastToken = not (zeros (64 - token_length l) (108 + token_length l) l)
-slot_fails l Slot.Unnamed = not (zeros 320 172 l)
+abbrev pub slot_fails : List ℕ → Option SlotPart → Bool
+slot_fails l None = false
+slot_fails l (Some Slot.Check) = not (checked l)
+slot_fails l (Some Slot.State) = not (eqb (state_number l) 1)
+slot_fails l (Some Slot.Unit) = not (leb (slot_unit l) 7)
+slot_fails l (Some Slot.TokenLength) = not (right_token (token_length l))
+slot_fails l (Some Slot.Command) = not (both (data_out (get_or l 8 0)) (legal_len (get_or l 8 0) (command_length l)))
+slot_fails l (Some Slot.PastCommand) = not (zeros (100 - command_length l) (8 + command_length l) l)
+slot_fails l (Some Slot.PastToken) = not (zeros (64 - token_length l) (108 + token_length l) l)
+slot_fails l (Some Slot.Unnamed) = not (zeros 320 172 l)
 
 -- of a record that is unsound though all but the unnamed bytes holds
 opened_out : (z s : Bool) → is_unsound_slot (pick z Free (pick s Open UnsoundSlot)) ≡ true → not s ≡ true
@@ -159,14 +159,14 @@ module _ (l : List ℕ) (e : is_unsound_slot (slot_state_of l) ≡ true) where
   unnamed_fails : checked l ≡ true → eqb (state_number l) 1 ≡ true → leb (slot_unit l) 7 ≡ true → right_token (token_length l) ≡ true
       → both (data_out (get_or l 8 0)) (legal_len (get_or l 8 0) (command_length l)) ≡ true
       → zeros (100 - command_length l) (8 + command_length l) l ≡ true → zeros (64 - token_length l) (108 + token_length l) l ≡ true
-      → slot_fails l Slot.Unnamed ≡ true
+      → slot_fails l (Some Slot.Unnamed) ≡ true
   unfolding slot_state_of open_shape
   unnamed_fails a b c d f g h = opened_out (zeros 492 0 l) (zeros 320 172 l) (rw (a, b, c, d, f, g, h) at e)
 
-  open_fails : slot_fails l (open_part l) ≡ true
+  open_fails : slot_fails l (Some (open_part l)) ≡ true
   unfolding open_part space_part
   open_fails =
-      let P : SlotPart → Type 0 = λ (part : SlotPart). slot_fails l part ≡ true in
+      let P : SlotPart → Type 0 = λ (part : SlotPart). slot_fails l (Some part) ≡ true in
       pick_cases P (checked l) _ Slot.Check
       (λ a. pick_cases P (eqb (state_number l) 1) _ Slot.State
       (λ b. pick_cases P (leb (slot_unit l) 7) _ Slot.Unit
@@ -182,11 +182,11 @@ module _ (l : List ℕ) (e : is_unsound_slot (slot_state_of l) ≡ true) where
   unfolding slot_part
   slot_fails_lem = rw e open_fails
 
-pub slot_named : (l : List ℕ) → (slot_part l ≡ Slot.Nothing → is_unsound_slot (slot_state_of l) ≡ false)
-    × (is_unsound_slot (slot_state_of l) ≡ false → slot_part l ≡ Slot.Nothing)
+pub slot_named : (l : List ℕ) → (slot_part l ≡ None → is_unsound_slot (slot_state_of l) ≡ false)
+    × (is_unsound_slot (slot_state_of l) ≡ false → slot_part l ≡ None)
 unfolding slot_part
 slot_named l = (λ n. by_state (is_unsound_slot (slot_state_of l)) refl n, λ e. rw e)
   where
-    by_state : (b : Bool) → is_unsound_slot (slot_state_of l) ≡ b → pick b (open_part l) Slot.Nothing ≡ Slot.Nothing → b ≡ false
+    by_state : (b : Bool) → is_unsound_slot (slot_state_of l) ≡ b → pick b (Some (open_part l)) None ≡ None → b ≡ false
     by_state true e n = sym (open_fails l e) ∙ ap (slot_fails l) n
     by_state false e n = refl

@@ -1,6 +1,6 @@
 -- Which part of soundness fails first in a record (units/specs/Unit.antt and slots/specs/Slot.antt say what soundness is). Each part is
--- named where it fails and those before it hold; Nothing where the record is sound.
-use Rattle.std.specs.Prelude.{Bool, true, false, not, List, ℕ, zero, suc, ◌+◌, ◌*◌, ◌-◌, eqb, leb, get_or}
+-- named where it fails and those before it hold; none where the record is sound.
+use Rattle.std.specs.Prelude.{Bool, true, false, not, Option, Some, None, List, ℕ, zero, suc, ◌+◌, ◌*◌, ◌-◌, eqb, leb, get_or}
 use Rattle.choice.specs.Choice.{both, either, pick}
 use Rattle.wire.specs.Bytes.{zeros}
 use Rattle.seal.specs.Seal.{checked}
@@ -12,7 +12,7 @@ use Rattle.slots.specs.declared.SlotState.{SlotState}
 use Rattle.slots.specs.declared.SlotState.TheVariants.{Free, Open, Unsound as UnsoundSlot}
 use Rattle.slots.specs.Slot.{state_number, slot_unit, command_length, token_length, right_token, slot_state_of}
 use Rattle.show.specs.declared.UnitPart.{UnitPart}
-use Rattle.show.specs.declared.UnitPart.TheVariants.{Nothing, Check, Layout, Place, Method, Step, NextPair, Key, Unnamed, Keeper}
+use Rattle.show.specs.declared.UnitPart.TheVariants.{Check, Layout, Place, Method, Step, NextPair, Key, Unnamed, Keeper}
 use Rattle.show.specs.declared.SlotPart.{SlotPart}
 use Rattle.show.specs.declared.SlotPart.TheVariants as Slot
 
@@ -31,7 +31,7 @@ wrong_key (suc n) v l = pick (key_wrong v l) v (wrong_key n (v + 1) l)
 unfoldable pub tail_part : List ℕ → UnitPart
 tail_part l =
     pick (either (eqb (step l) 1) (next_pair_zero l))
-    (pick (eqb (wrong_key 16 0 l) 16) (pick (unnamed_zero l) Keeper Unnamed) (Key (record { 0 = wrong_key 16 0 l })))
+    (pick (eqb (wrong_key 16 0 l) 16) (pick (unnamed_zero l) Keeper Unnamed) (Key (wrong_key 16 0 l)))
     NextPair
 
 -- check, layout, place, method, step, and the rest
@@ -49,8 +49,8 @@ is_unsound_unit Used = false
 is_unsound_unit Unsound = true
 
 -- of unit u in its table
-unfoldable pub unit_part : List ℕ → ℕ → UnitPart
-unit_part units u = pick (is_unsound_unit (unit_state units u)) (record_part u (unit_at u units)) Nothing
+unfoldable pub unit_part : List ℕ → ℕ → Option UnitPart
+unit_part units u = pick (is_unsound_unit (unit_state units u)) (Some (record_part u (unit_at u units))) None
 
 -- ---- a slot's record
 
@@ -79,5 +79,5 @@ is_unsound_slot Free = false
 is_unsound_slot Open = false
 is_unsound_slot UnsoundSlot = true
 
-unfoldable pub slot_part : List ℕ → SlotPart
-slot_part l = pick (is_unsound_slot (slot_state_of l)) (open_part l) Slot.Nothing
+unfoldable pub slot_part : List ℕ → Option SlotPart
+slot_part l = pick (is_unsound_slot (slot_state_of l)) (Some (open_part l)) None

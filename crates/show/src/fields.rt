@@ -1,87 +1,113 @@
-// Single fields as lines: each is put at a place and answers the next, as text::put does. A line starts with a newline and two spaces, so
-// that it stands under the record's first line.
-ghost use Rattle.std.specs.Prelude.{length, ◌≡◌, ◌<◌};
+// Values of fields, as they are shown. A field's line starts with a newline and two spaces, so that it stands under the record's first
+// line.
+ghost use Rattle.std.specs.Prelude.{◌<◌};
 
-use text::{put, put_decimal};
+use model::KeyVersion;
+use seal::Record;
+use std::fmt;
+use std::fmt::Write;
 
-// The first line's beginning: what is shown, by its number.
-pub fn put_title(out: &mut [u8], at: usize, what: &[u8], number: u32) -> usize {
-    let n = put(out, at, what);
-    put_decimal(out, n, number as u64)
-}
-
-// So many bytes.
-pub fn put_bytes(out: &mut [u8], at: usize, count: u16) -> usize {
-    let n = put_decimal(out, at, count as u64);
-    put(out, n, b" bytes")
-}
-
-// A line's beginning: its name, and a colon.
-fn put_label(out: &mut [u8], at: usize, name: &[u8]) -> usize {
-    let n = put(out, at, b"\n  ");
-    let n = put(out, n, name);
-    put(out, n, b":")
-}
-
-// The same, and a space in front of the value.
-pub fn put_name(out: &mut [u8], at: usize, name: &[u8]) -> usize {
-    let n = put_label(out, at, name);
-    put(out, n, b" ")
-}
-
-pub fn put_number(out: &mut [u8], at: usize, name: &[u8], x: u64) -> usize {
-    let n = put_name(out, at, name);
-    put_decimal(out, n, x)
-}
-
-// Whether the 20 bytes from a on, a key, are zero.
-pub fn put_key(out: &mut [u8], at: usize, name: &[u8], rec: &[u8], a: usize) -> usize
+// What a key is shown as, the 20 bytes of rec from a on.
+pub fn key_text(rec: &[u8], a: usize) -> &'static str
     requires { a < 512 }
 {
-    let n = put_name(out, at, name);
     if wire::are_zeros(rec, a, 20) {
-        return put(out, n, b"zero");
+        "zero"
+    } else {
+        "not zero"
     }
-    put(out, n, b"not zero")
 }
 
-// The version behind a space, where the mask has its bit.
-fn put_version(out: &mut [u8], at: usize, mask: u32, v: u32) -> usize
-    requires { v < 16 }
-{
-    if units::has_bit(mask, v) {
-        let n = put(out, at, b" ");
-        return put_decimal(out, n, v as u64);
+// The versions whose bit the mask has, each behind a space, or `none`.
+#[derive(Clone, Copy)]
+pub struct Versions(pub u32);
+
+impl fmt::Display for Versions {
+    fn fmt<W: Write>(&self, f: &mut fmt::Formatter<W>) -> fmt::Result {
+        if self.0 % 65536 == 0 {
+            return f.write_str(" none");
+        }
+        for v in 0..16 {
+            if units::has_bit(self.0, KeyVersion::new(v).unwrap()) {
+                write!(f, " {v}")?;
+            }
+        }
+        Ok(())
     }
-    at
 }
 
-// The versions whose bit the mask has, or `none`.
-pub fn put_versions(out: &mut [u8], at: usize, name: &[u8], mask: u32) -> usize {
-    let mut n = put_label(out, at, name);
-    if mask % 65536 == 0 {
-        return put(out, n, b" none");
-    }
-    let mut v: u32 = 0;
-    while v < 16 {
-        n = put_version(out, n, mask, v);
-        v += 1;
-    }
-    n
-}
-
-// A mask of the versions whose key is not zero.
-pub fn keys_not_zero(rec: &[u8]) -> u32
-    requires { length rec.now ≡ 512 }
-{
+// The versions whose key is not zero.
+pub fn keys_not_zero(rec: &Record) -> Versions {
     let mut found: u32 = 0;
-    let mut v: u32 = 16;
-    while 0 < v {
-        v -= 1;
-        found = found % 32768 * 2;
-        if !wire::are_zeros(rec, units::WORKING_KEYS + 20 * (v as usize), 20) {
-            found += 1;
+    for v in 0..16 {
+        if !wire::are_zeros(rec, units::WORKING_KEYS + 20 * v, 20) {
+            found |= 1 << v;
         }
     }
-    found
+    Versions(found)
+}
+
+// The method of a unit, by its name where it has one.
+#[derive(Clone, Copy)]
+pub struct Method(pub u32);
+
+impl fmt::Display for Method {
+    fn fmt<W: Write>(&self, f: &mut fmt::Formatter<W>) -> fmt::Result {
+        match self.0 {
+            0 => f.write_str("NOSEC"),
+            1 => f.write_str("CAPKEY"),
+            other => write!(f, "{other}"),
+        }
+    }
+}
+
+// Whose keys: the field is zero, or one more than a unit's number.
+#[derive(Clone, Copy)]
+pub struct Keeper(pub u32);
+
+impl fmt::Display for Keeper {
+    fn fmt<W: Write>(&self, f: &mut fmt::Formatter<W>) -> fmt::Result {
+        match self.0 {
+            0 => f.write_str("its own"),
+            field @ 1..=8 => write!(f, "unit {}", field - 1),
+            field => write!(f, "{field}"),
+        }
+    }
+}
+
+// A data-out command by its name, any other by its code.
+#[derive(Clone, Copy)]
+pub struct Command(pub u8);
+
+impl fmt::Display for Command {
+    fn fmt<W: Write>(&self, f: &mut fmt::Formatter<W>) -> fmt::Result {
+        f.write_str(match self.0 {
+            0x0A => "WRITE(6)",
+            0x15 => "MODE SELECT(6)",
+            0x2A => "WRITE(10)",
+            0x2E => "WRITE AND VERIFY(10)",
+            0x55 => "MODE SELECT(10)",
+            0x8A => "WRITE(16)",
+            0xAA => "WRITE(12)",
+            0xB5 => "SECURITY PROTOCOL OUT",
+            code => return write!(f, "code {code:02X}h"),
+        })
+    }
+}
+
+// A page of SECURITY PROTOCOL OUT, with its name where it is listed.
+#[derive(Clone, Copy)]
+pub struct Page(pub u16);
+
+impl fmt::Display for Page {
+    fn fmt<W: Write>(&self, f: &mut fmt::Formatter<W>) -> fmt::Result {
+        write!(f, " page {:04X}h", self.0)?;
+        f.write_str(match u32::from(self.0) {
+            model::SET_ATTRIBUTES => " Set Attributes",
+            model::SEED_EXCHANGE => " Seed Exchange",
+            model::SET_KEY => " Set Key",
+            model::CHANGE_MASTER => " Change Master Key",
+            _ => "",
+        })
+    }
 }

@@ -7,16 +7,17 @@ mod parts;
 mod slot;
 mod unit;
 
+use arrayvec::ArrayString;
 use model::{KeyVersion, SlotNo, UnitNo};
 pub use parts::{slot_part, unit_part};
 pub use slot::put_slot;
-use text::put;
+use std::fmt;
+use std::fmt::Write;
 pub use unit::put_unit;
 
-// The part of a unit's record. Nothing: it is sound.
+// The part of a unit's record.
 #[derive(Clone, Copy)]
 pub enum UnitPart {
-    Nothing,
     Check,
     Layout,
     Place,
@@ -28,10 +29,25 @@ pub enum UnitPart {
     Keeper,
 }
 
+impl fmt::Display for UnitPart {
+    fn fmt<W: Write>(&self, f: &mut fmt::Formatter<W>) -> fmt::Result {
+        f.write_str(match self {
+            UnitPart::Check => "check",
+            UnitPart::Layout => "layout",
+            UnitPart::Place => "place",
+            UnitPart::Method => "method",
+            UnitPart::Step => "step",
+            UnitPart::NextPair => "next pair",
+            UnitPart::Key(version) => return write!(f, "key {}", version.number()),
+            UnitPart::Unnamed => "unnamed bytes",
+            UnitPart::Keeper => "keeper",
+        })
+    }
+}
+
 // The part of a slot's record.
-#[derive(Clone, Copy)]
+#[derive(Clone, Copy, Debug, PartialEq, Eq)]
 pub enum SlotPart {
-    Nothing,
     Check,
     State,
     Unit,
@@ -42,26 +58,36 @@ pub enum SlotPart {
     Unnamed,
 }
 
-// All units, parted by newlines.
-fn put_units(out: &mut [u8], at: usize, units: &[u8]) -> usize {
-    let mut n = put_unit(out, at, units, UnitNo(0));
-    let mut i: u32 = 1;
-    while i < 8 {
-        n = put(out, n, b"\n");
-        n = put_unit(out, n, units, UnitNo(i));
-        i += 1;
+impl fmt::Display for SlotPart {
+    fn fmt<W: Write>(&self, f: &mut fmt::Formatter<W>) -> fmt::Result {
+        f.write_str(match self {
+            SlotPart::Check => "check",
+            SlotPart::State => "state",
+            SlotPart::Unit => "unit",
+            SlotPart::TokenLength => "token length",
+            SlotPart::Command => "command",
+            SlotPart::PastCommand => "bytes past the command",
+            SlotPart::PastToken => "bytes past the token",
+            SlotPart::Unnamed => "unnamed bytes",
+        })
     }
-    n
 }
 
-// Every record of the two tables: units 0 to 7, then slots 0 to 15.
-pub fn put_all(out: &mut [u8], at: usize, units: &[u8], slots: &[u8]) -> usize {
-    let mut n = put_units(out, at, units);
-    let mut i: u32 = 0;
-    while i < 16 {
-        n = put(out, n, b"\n");
-        n = put_slot(out, n, slots, SlotNo(i));
-        i += 1;
+// Every record of the two tables, parted by newlines: units 0 to 7, then slots 0 to 15.
+pub fn put_all<const N: usize>(
+    out: &mut ArrayString<N>,
+    units: &[u8],
+    slots: &[u8],
+) -> fmt::Result {
+    for i in 0..8 {
+        if 0 < i {
+            out.write_str("\n")?;
+        }
+        put_unit(out, units, UnitNo(i))?;
     }
-    n
+    for i in 0..16 {
+        out.write_str("\n")?;
+        put_slot(out, slots, SlotNo(i))?;
+    }
+    Ok(())
 }

@@ -1,4 +1,4 @@
--- Laws of the table: a slot that is lent; a slot that is written or freed, where the others stay as they were; all sixteen freed.
+-- Laws of the table: how long a slot is; a slot that is written or freed, where the others stay as they were; all sixteen freed.
 use Rattle.std.specs.Prelude.{◌≡◌, refl, List, ℕ, zero, suc, ◌+◌, ◌*◌, ◌-◌, ◌≤◌, ◌<◌, length, take, drop}
 use Rattle.std.proofs.Common.{◌∙◌, sym, ap, ⊎_elim, arith, eq-or-lt_of_le, length-take, length-drop}
 use Rattle.wire.specs.Bytes.{patch}
@@ -7,7 +7,6 @@ use Rattle.seal.specs.Seal.{blank_record}
 use Rattle.seal.specs.BlankLaws.{record_length}
 use Rattle.slots.specs.Slot.{slot_at, freed, freed_from, all_freed}
 
--- the part of the table that is lent as `&slots[a..a + 512]`
 pub slot_lent : (i : ℕ) (slots : List ℕ) → take (i * 512 + 512 - i * 512) (drop (i * 512) slots) ≡ slot_at i slots
 slot_lent i slots = lent_part slots (i * 512) 512
 

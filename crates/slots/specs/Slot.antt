@@ -1,13 +1,11 @@
 -- Slot records (document 01, "Records of 512 bytes", Slot): fields, soundness, an open one, and the slot table. docs/RULES.md, 2.4.
-use Rattle.std.specs.Prelude.{Bool, true, false, List, ◌++◌, ℕ, zero, suc, ◌+◌, ◌*◌, ◌-◌, eqb, leb, length, get_or}
+use Rattle.std.specs.Prelude.{Bool, true, false, List, ◌++◌, ℕ, zero, suc, ◌+◌, ◌*◌, ◌-◌, eqb, leb, length, get_or, Option, Some, None}
 use Rattle.choice.specs.Choice.{both, pick}
 use Rattle.wire.specs.Bytes.{part, number, bytes_of, zeros, patch}
 use Rattle.seal.specs.Seal.{checked, seal, blank, blank_record}
 use Rattle.model.specs.Codes.{data_out, legal_len}
 use Rattle.slots.specs.declared.SlotState.{SlotState}
 use Rattle.slots.specs.declared.SlotState.TheVariants.{Free, Open, Unsound}
-use Rattle.slots.specs.declared.Found.{Found}
-use Rattle.slots.specs.declared.Found.TheVariants.{At, Nothing}
 
 -- 0-1 state; 2-3 unit; 4-5 command length; 6-7 token length; 8-107 command; 108-171 token
 unfoldable pub state_number : List ℕ → ℕ
@@ -69,11 +67,11 @@ is_open Open = true
 is_open Unsound = false
 
 -- the lowest sound free one of the n slots from i on
-unfoldable pub free_from : ℕ → ℕ → List ℕ → Found
-free_from zero i slots = Nothing
-free_from (suc n) i slots = pick (is_free (slot_state_of (slot_at i slots))) (At (record { 0 = i })) (free_from n (i + 1) slots)
+unfoldable pub free_from : ℕ → ℕ → List ℕ → Option ℕ
+free_from zero i slots = None
+free_from (suc n) i slots = pick (is_free (slot_state_of (slot_at i slots))) (Some i) (free_from n (i + 1) slots)
 
-unfoldable pub lowest_free : List ℕ → Found
+unfoldable pub lowest_free : List ℕ → Option ℕ
 lowest_free slots = free_from 16 0 slots
 
 -- the table with slot i parked, freed; and all sixteen freed

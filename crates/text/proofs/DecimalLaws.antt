@@ -1,10 +1,12 @@
 -- Laws of decimal numbers: more digits say no less, and a number as text is read back as the same number.
-use Rattle.std.specs.Prelude.{◌≡◌, refl, true, false, List, [], ℕ, zero, suc, ◌+◌, ◌*◌, ◌/◌, ◌%◌, ◌^◌, ◌≤◌, ◌<◌, length, get_or, leb}
-use Rattle.std.proofs.Common.{◌∙◌, ap, ap₂, arith, length-append, ⊎_elim, le_refl, pow-suc, lt-ltb}
+use Rattle.std.specs.Prelude.{◌≡◌, refl, Bool, true, false, List, [], ◌∷◌, ◌++◌, ◌==◌, ℕ, zero, suc, ◌+◌, ◌*◌, ◌-◌, ◌/◌, ◌%◌, ◌^◌, ◌≤◌, ◌<◌, length, get_or}
+use Rattle.std.proofs.Common.{◌∙◌, ap, ap₂, sym, arith, eqb-true, eq-eqb, append-nil, append_assoc, length-append, ⊎_elim, le_refl, pow-suc, lt-ltb}
 use Rattle.std.proofs.Math.ListN.{get_or-append}
 use Rattle.std.proofs.lemmas.List.{get_or_at}
-use Rattle.std.proofs.lemmas.Bool.{lt-leb}
-use Rattle.text.specs.Digits.{last_digits, hex_digit_ascii}
+use Rattle.std.proofs.lemmas.Bool.{eqb-false}
+use Rattle.std.specs.Prelude.{decimal}
+use Rattle.std.specs.Fmt.{digits_onto, digit_glyph, digits}
+use Rattle.text.specs.Digits.{last_digits, hex_digit_ascii, IsDigitCount}
 use Rattle.text.specs.Hex.{value, all_digits}
 use Rattle.text.specs.Decimal.{decimal_of, SpelledOut}
 use Rattle.text.proofs.HexLaws.{last_or_before, one_more, all_below, value_numeral}
@@ -63,10 +65,56 @@ decimal_back x t (k, (f, e)) =
     rw (e, spelled_length k x) (all_below 10 k (last_digits 10 k x) (spelled_digit k x), spelled_said k x f.1)
 
 -- where the digits up to i and the one there say more than the bound, all of them do
-pub exceeds : (s : List ℕ) (n i most : ℕ) → i < n → most < decimal_of i s * 10 + value (get_or s i 0) → leb (decimal_of n s) most ≡ false
-exceeds s n i most h k =
-    lt-leb (decimal_of n s) most (omega (arith, decimal_grows (i + 1) n s (omega arith), decimal_next i s))
+pub exceeds : (s : List ℕ) (n i most : ℕ) → i < n → most < decimal_of i s * 10 + value (get_or s i 0) → most < decimal_of n s
+exceeds s n i most h k = omega (arith, decimal_grows (i + 1) n s (omega arith), decimal_next i s)
 
 pub decimal_none : (s : List ℕ) → decimal_of 0 s ≡ 0
 unfolding decimal_of
 decimal_none s = refl
+
+-- ---- what std prints of a number is the number in decimal
+
+-- one digit more
+grows : (j x : ℕ) → 1 ≤ j → (1 < j → 10 ^ (j - 1) ≤ x / 10) → (x / 10 ≡ 0 → ⊥) → 10 ^ j ≤ x
+grows zero x p g n = absurd (omega arith)
+grows (suc zero) x p g n = omega (arith, n)
+grows (suc (suc i)) x p g n =
+    let k : suc (suc i) - 1 ≡ suc i = omega arith in
+    let h : 10 ^ suc i ≤ x / 10 = rw k at (g (omega arith)) in
+    omega (arith, pow-suc 10 (suc i))
+
+glyph_is : (x : ℕ) → digit_glyph false (x % 10) ≡ hex_digit_ascii (x % 10)
+glyph_is x = rw (lt-ltb (x % 10) 10 (omega arith)) refl
+
+-- the digits that std puts in front of acc, of a number that they hold, are those that it takes
+abbrev Spells : ℕ → ℕ → List ℕ → Type 0
+Spells f x acc = (k : ℕ) × ((IsDigitCount 10 1 x k) × (digits_onto (suc f) 10 false x acc ≡ last_digits 10 k x ++ acc))
+
+spells_one : (f x : ℕ) (acc : List ℕ) → (x / 10 == 0) ≡ true → Spells f x acc
+spells_one f x acc e =
+    let z = eqb-true (x / 10) 0 e in
+    (1, ((omega arith, omega arith, λ h. absurd (omega arith)), rw e (ap (λ (g : ℕ). g ∷ acc) (glyph_is x))))
+
+spells_more : (f x : ℕ) (acc : List ℕ) → (x / 10 == 0) ≡ false → Spells f (x / 10) (digit_glyph false (x % 10) ∷ acc) → Spells (suc f) x acc
+spells_more f x acc e (j, ((p, small, g), is)) =
+    let n = eqb-false (x / 10) 0 e in
+    let front : List ℕ = last_digits 10 j (x / 10) in (
+      suc j,
+      (
+        (omega arith, omega (arith, pow-suc 10 j), λ h. let k : suc j - 1 ≡ j = omega arith in rw k (grows j x p g n)),
+        rw e (is ∙ ap (λ (d : ℕ). front ++ d ∷ acc) (glyph_is x) ∙ sym (append_assoc front (hex_digit_ascii (x % 10) ∷ []) acc)),
+      ),
+    )
+
+spells : (f x : ℕ) (acc : List ℕ) → x < 10 ^ suc f → Spells f x acc
+spells zero x acc h = spells_one zero x acc (eq-eqb (x / 10) 0 (omega arith))
+spells (suc f) x acc h = by_rest (x / 10 == 0) refl (spells f (x / 10) (digit_glyph false (x % 10) ∷ acc) (omega (arith, pow-suc 10 (suc f))))
+  where
+    by_rest : (b : Bool) → (x / 10 == 0) ≡ b → Spells f (x / 10) (digit_glyph false (x % 10) ∷ acc) → Spells (suc f) x acc
+    by_rest true e rest = spells_one (suc f) x acc e
+    by_rest false e rest = spells_more f x acc e rest
+
+-- what `{}` prints of a number of 64 bits
+pub decimal_spelled : (x : ℕ) → x < 2 ^ 64 → SpelledOut x (decimal x)
+unfolding digits
+decimal_spelled x h = let (k, (count, is)) = spells 63 x [] (omega arith) in (k, (count, is ∙ append-nil (last_digits 10 k x)))

@@ -1,17 +1,15 @@
 -- Laws of hex digits: each in lower case is read as what it was written for, so bytes as text are read back as the same bytes.
 use Rattle.std.specs.Prelude.{◌≡◌, refl, ◌⊎◌, Bool, true, false, not, List, [], ◌∷◌, ◌++◌, ℕ, zero, suc, ◌+◌, ◌*◌, ◌-◌, ◌/◌, ◌%◌, ◌≤◌, ◌<◌, eqb, leb, ltb, get_or, take}
-use Rattle.std.proofs.Common.{◌∙◌, sym, ap, ap₂, inl, inr, ⊎_elim, arith, length-append, get_or-append-add, take-suc, ltb-true, ltb-false, lt-ltb, le-ltb, le-leb, leb-true, eqb-true, eq-eqb, ne_eqb}
+use Rattle.std.proofs.Common.{◌∙◌, sym, ap, ap₂, inl, inr, ⊎_elim, arith, length-append, append_assoc, append-nil, get_or-append-add, take-suc, ltb-true, ltb-false, lt-ltb, le-ltb, le-leb, leb-true, eqb-true, eq-eqb, ne_eqb}
 use Rattle.std.proofs.Math.ListN.{length, get_or-append}
 use Rattle.std.proofs.Math.Seq.{take-length}
 use Rattle.std.proofs.lemmas.Bool.{lt-leb, eqb-false}
 use Rattle.choice.specs.Choice.{both}
 use Rattle.choice.specs.ChoiceLaws.{both_true, both_none, either_right, pick_cases}
 use Rattle.wire.specs.Bytes.{AreBytes, patch}
-use Rattle.wire.proofs.PatchLaws.{length_patch, patch_join}
-use Rattle.text.specs.Place.{bad, place_behind, with_text}
-use Rattle.text.proofs.PlaceLaws.{placed_in}
+use Rattle.wire.proofs.PatchLaws.{patch_join}
 use Rattle.text.specs.Hex.{within, value, digit, two_digits, digits_of, hex_text, all_digits, bytes_in, is_dash, are_pairs, is_hex}
-use Rattle.text.specs.Hex.{hex_bytes, unhex_place, unhex_in}
+use Rattle.text.specs.Hex.{hex_bytes}
 
 -- i is one of the first n + 1: one of the first n, or the last
 pub last_or_before : (i n : ℕ) → i < suc n → (i < n) ⊎ (i ≡ n)
@@ -217,22 +215,45 @@ back (suc n) m l small h k =
 
 -- ---- put one behind another
 
-pub digits_more : (out : List ℕ) (at i : ℕ) (l : List ℕ) → at + 2 * i + 2 ≤ length out
-    → with_text (patch out at (digits_of i l)) (at + 2 * i) (two_digits 0x61 (get_or l i 0)) ≡ patch out at (digits_of (i + 1) l)
-digits_more out at i l h =
-    let long = digits_length i l in
-    let fits : at + length (digits_of i l) ≤ length out = omega (arith, long) in
-    let same = length_patch out at (digits_of i l) fits in
-    placed_in (patch out at (digits_of i l)) (at + 2 * i) (two_digits 0x61 (get_or l i 0)) (omega (arith, same, two_long 0x61 (get_or l i 0)))
-    ∙ patch_join out at (digits_of i l) fits (at + 2 * i) (two_digits 0x61 (get_or l i 0)) (omega (arith, long))
-    ∙ ap (patch out at) (sym (digits_next i l))
+-- the digits of a byte in lower case are ASCII
+digit_ascii : (x : ℕ) → x < 16 → digit 0x61 x < 128
+unfolding digit
+digit_ascii x h =
+    pick_cases (λ (y : ℕ). y < 128) (ltb x 10) (0x30 + x) (0x61 + (x - 10)) (λ e. let g = ltb-true x 10 e in omega arith) (λ e. omega arith)
 
-pub bytes_more : (out : List ℕ) (at i : ℕ) (s : List ℕ) → at + i ≤ length out
-    → patch (patch out at (bytes_in i s)) (at + i) ((value (get_or s (2 * i) 0) * 16 + value (get_or s (2 * i + 1) 0)) ∷ [])
-    ≡ patch out at (bytes_in (i + 1) s)
-bytes_more out at i s h =
-    let long = bytes_length i s in
-    patch_join out at (bytes_in i s) (omega (arith, long)) (at + i) _ (omega (arith, long)) ∙ ap (patch out at) (sym (bytes_next i s))
+pub high_ascii : (b : ℕ) → b < 256 → get_or (two_digits 0x61 b) 0 0 < 128
+unfolding two_digits
+high_ascii b h = digit_ascii (b / 16) (omega arith)
+
+pub low_ascii : (b : ℕ) → get_or (two_digits 0x61 b) 1 0 < 128
+unfolding two_digits
+low_ascii b = digit_ascii (b % 16) (omega arith)
+
+pub two_behind : (l : List ℕ) (b : ℕ)
+    → (l ++ get_or (two_digits 0x61 b) 0 0 ∷ []) ++ get_or (two_digits 0x61 b) 1 0 ∷ [] ≡ l ++ two_digits 0x61 b
+unfolding two_digits
+two_behind l b = append_assoc l _ _
+
+pub digits_start : (out l : List ℕ) → out ≡ out ++ digits_of 0 l
+digits_start out l = sym (append-nil out) ∙ ap (λ (d : List ℕ). out ++ d) (sym (digits_none l))
+
+pub digits_more : (out : List ℕ) (i : ℕ) (l : List ℕ)
+    → (out ++ digits_of i l) ++ two_digits 0x61 (get_or l i 0) ≡ out ++ digits_of (i + 1) l
+digits_more out i l = append_assoc out (digits_of i l) _ ∙ ap (λ (d : List ℕ). out ++ d) (sym (digits_next i l))
+
+pub digits_placed : (out : List ℕ) (i : ℕ) (l : List ℕ) → 2 * i + 2 ≤ length out
+    → patch (patch out 0 (digits_of i l)) (2 * i) (two_digits 0x61 (get_or l i 0)) ≡ patch out 0 (digits_of (i + 1) l)
+digits_placed out i l h =
+    let long = digits_length i l in
+    patch_join out 0 (digits_of i l) (omega (arith, long)) (2 * i) (two_digits 0x61 (get_or l i 0)) (omega (arith, long))
+    ∙ ap (patch out 0) (sym (digits_next i l))
+
+pub bytes_start : (out s : List ℕ) → out ≡ out ++ bytes_in 0 s
+bytes_start out s = sym (append-nil out) ∙ ap (λ (d : List ℕ). out ++ d) (sym (bytes_none s))
+
+pub bytes_more : (out : List ℕ) (i : ℕ) (s : List ℕ)
+    → (out ++ bytes_in i s) ++ (value (get_or s (2 * i) 0) * 16 + value (get_or s (2 * i + 1) 0)) ∷ [] ≡ out ++ bytes_in (i + 1) s
+bytes_more out i s = append_assoc out (bytes_in i s) _ ∙ ap (λ (d : List ℕ). out ++ d) (sym (bytes_next i s))
 
 -- what is not one byte long is no dash
 pub no_dash : (s : List ℕ) → (length s ≡ 1 → ⊥) → is_dash s ≡ false
@@ -253,6 +274,9 @@ text_none l e = rw (eq-eqb (length l) 0 e)
 pub text_some : (l : List ℕ) → 0 < length l → hex_text l ≡ digits_of (length l) l
 unfolding hex_text
 text_some l h = rw (ne_eqb (length l) 0 (λ z. omega arith))
+
+pub text_long : (l : List ℕ) → 0 < length l → length (hex_text l) ≡ 2 * length l
+text_long l h = ap length (text_some l h) ∙ digits_length (length l) l
 
 module _ (l : List ℕ) (small : AreBytes l) (h : 0 < length l) where
   long : length (digits_of (length l) l) ≡ 2 * length l
@@ -295,17 +319,29 @@ pairs_digits s e =
     let inner = (both_true (not (eqb (length s) 0)) (both (eqb (length s % 2) 0) (all_digits 16 (length s) s)) e).1 in
     (both_true (eqb (length s % 2) 0) (all_digits 16 (length s) s) inner).1
 
-module _ (s out : List ℕ) (at : ℕ) where
-  pub unhex_dash : is_dash s ≡ true → (unhex_place s out at ≡ place_behind out at []) × (unhex_in s out at ≡ with_text out at [])
-  unfolding unhex_place unhex_in is_hex hex_bytes
-  unhex_dash e = rw e (refl, refl)
+module _ (s : List ℕ) where
+  pub dash_hex : is_dash s ≡ true → (is_hex s ≡ true) × (hex_bytes s ≡ [])
+  unfolding is_hex hex_bytes
+  dash_hex e = rw e (refl, refl)
 
-  pub unhex_pairs : is_dash s ≡ false → are_pairs s ≡ true
-      → (unhex_place s out at ≡ place_behind out at (bytes_in (length s / 2) s)) × (unhex_in s out at ≡ with_text out at (bytes_in (length s
-      / 2) s))
-  unfolding unhex_place unhex_in is_hex hex_bytes
-  unhex_pairs e f = rw (e, f) (refl, refl)
+  pub pairs_hex : is_dash s ≡ false → are_pairs s ≡ true → (is_hex s ≡ true) × (hex_bytes s ≡ bytes_in (length s / 2) s)
+  unfolding is_hex hex_bytes
+  pairs_hex e f = rw (e, f) (refl, refl)
 
-  pub unhex_none : is_dash s ≡ false → are_pairs s ≡ false → (unhex_place s out at ≡ bad) × (unhex_in s out at ≡ out)
-  unfolding unhex_place unhex_in is_hex
-  unhex_none e f = rw (e, f) (refl, refl)
+  pub no_hex : is_dash s ≡ false → are_pairs s ≡ false → is_hex s ≡ false
+  unfolding is_hex
+  no_hex e f = rw (e, f) refl
+
+-- ---- all digits, by index
+
+-- whether all say a value below base: the one answer of a search for one that does not
+pub all_said : (r : Bool) (base : ℕ) (s : List ℕ)
+    → (r ≡ true → (i : ℕ) → i < length s → value (get_or s i 0) < base)
+    → (((i : ℕ) → i < length s → value (get_or s i 0) < base) → r ≡ true)
+    → r ≡ all_digits base (length s) s
+all_said true base s f g = sym (all_below base (length s) s (f refl))
+all_said false base s f g = by_all (all_digits base (length s) s) refl
+  where
+    by_all : (b : Bool) → all_digits base (length s) s ≡ b → false ≡ all_digits base (length s) s
+    by_all false e = sym e
+    by_all true e = g (λ i h. digit_below base (length s) s i e h) ∙ sym e

@@ -1,7 +1,5 @@
 -- laws of the definitions of specs/
-pub mod PlaceLaws
 pub mod HexLaws
-pub mod PowerLaws
 pub mod DecimalLaws
 pub mod WordLaws
 pub mod ScanLaws

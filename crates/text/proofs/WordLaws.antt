@@ -1,11 +1,18 @@
 -- Laws of words: how a search for the next gap, or for what is none, goes on and ends.
-use Rattle.std.specs.Prelude.{◌≡◌, Bool, not, List, ℕ, ◌+◌, ◌-◌, ◌≤◌, ◌<◌, eqb, length, get_or, take}
-use Rattle.std.proofs.Common.{◌∙◌, ap, ⊎_elim, arith}
-use Rattle.std.proofs.Math.Nat.{sub-zero}
+use Rattle.std.specs.Prelude.{◌≡◌, refl, Bool, true, false, not, List, ℕ, ◌+◌, ◌-◌, ◌≤◌, ◌<◌, eqb, length, get_or, take}
+use mathlib.Core.Bool.{beq}
+use Rattle.std.proofs.Common.{◌∙◌, sym, ap, ⊎_elim, arith}
 use borrow.Author.Tests.{eq-eqb, ne_eqb}
 use Rattle.choice.specs.ChoiceLaws.{both_none}
 use Rattle.text.specs.Words.{is_gap, First, unreturned}
 use Rattle.text.proofs.HexLaws.{last_or_before}
+
+-- what a test of two truths for equality says
+pub same_truth : (a b : Bool) → beq a b ≡ true → a ≡ b
+same_truth true true e = refl
+same_truth true false e = sym e
+same_truth false true e = e
+same_truth false false e = refl
 
 -- from `at` up to i the search has found nothing
 abbrev pub Searched : Bool → ℕ → List ℕ → ℕ → Type 0
@@ -34,10 +41,10 @@ module _ (line : List ℕ) where
   unfolding unreturned
   return_empty e = rw (eq-eqb (length line) 0 e)
 
-  pub return_there : 0 < length line → get_or line (length line - 1) 0 ≡ 0x0d → take (length line - 1 - 0) line ≡ unreturned line
+  pub return_there : 0 < length line → get_or line (length line - 1) 0 ≡ 0x0d → take (length line - 1) line ≡ unreturned line
   unfolding unreturned
   return_there h e =
-      rw (ne_eqb (length line) 0 (λ z. omega arith), eq-eqb (get_or line (length line - 1) 0) 0x0d e, sub-zero (length line - 1))
+      rw (ne_eqb (length line) 0 (λ z. omega arith), eq-eqb (get_or line (length line - 1) 0) 0x0d e) refl
 
   pub return_none : (get_or line (length line - 1) 0 ≡ 0x0d → ⊥) → line ≡ unreturned line
   unfolding unreturned

@@ -1,7 +1,6 @@
 -- Decimal numbers: what digits say, and a number's digits.
 use Rattle.std.specs.Prelude.{◌≡◌, List, ℕ, zero, suc, ◌+◌, ◌*◌, get_or}
 use Rattle.text.specs.Digits.{last_digits, IsDigitCount}
-use Rattle.text.specs.Place.{place_behind, with_text}
 use Rattle.text.specs.Hex.{value}
 
 -- the number that the first n bytes of s say, where these are digits (`all_digits 10`); of other bytes it says nothing of use
@@ -12,7 +11,3 @@ decimal_of (suc n) s = decimal_of n s * 10 + value (get_or s n 0)
 -- t is x in decimal: as many digits as it takes, one for zero
 abbrev pub SpelledOut : ℕ → List ℕ → Type 0
 SpelledOut x t = (k : ℕ) × ((IsDigitCount 10 1 x k) × (t ≡ last_digits 10 k x))
-
--- x was put into out from `at` on: the place behind it, and the buffer then
-abbrev pub PutDecimal : ℕ → List ℕ → ℕ → ℕ → List ℕ → Type 0
-PutDecimal x out at place after = (t : List ℕ) × ((SpelledOut x t) × ((place ≡ place_behind out at t) × (after ≡ with_text out at t)))

@@ -1,7 +1,6 @@
 -- Hex digits: the value of one, bytes as digits, and digits as bytes.
 use Rattle.std.specs.Prelude.{Bool, true, not, List, [], ◌∷◌, ◌++◌, ℕ, zero, suc, ◌+◌, ◌*◌, ◌-◌, ◌/◌, ◌%◌, eqb, leb, ltb, length, get_or}
 use Rattle.choice.specs.Choice.{both, either, pick}
-use Rattle.text.specs.Place.{bad, place_behind, with_text}
 
 abbrev pub within : ℕ → ℕ → ℕ → Bool
 within least most c = both (leb least c) (leb c most)
@@ -51,10 +50,3 @@ is_hex s = either (is_dash s) (are_pairs s)
 
 unfoldable pub hex_bytes : List ℕ → List ℕ
 hex_bytes s = pick (is_dash s) [] (bytes_in (length s / 2) s)
-
--- the place behind the bytes that s says, put into out from `at` on, and out with them; no place, and out as it was, where s is no hex
-unfoldable pub unhex_place : List ℕ → List ℕ → ℕ → ℕ
-unhex_place s out at = pick (is_hex s) (place_behind out at (hex_bytes s)) bad
-
-unfoldable pub unhex_in : List ℕ → List ℕ → ℕ → List ℕ
-unhex_in s out at = pick (is_hex s) (with_text out at (hex_bytes s)) out

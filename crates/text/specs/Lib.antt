@@ -1,5 +1,4 @@
 -- What the crate's contracts cite: the meanings.
-pub mod Place
 pub mod Hex
 pub mod Digits
 pub mod Decimal

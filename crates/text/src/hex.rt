@@ -1,12 +1,15 @@
 // Bytes as hex digits, and hex digits as bytes.
-ghost use Rattle.std.specs.Prelude.{◌≡◌, true, ◌+◌, ◌*◌, ◌/◌, ◌<◌, ◌≤◌, length, get_or};
+ghost use Rattle.std.specs.Prelude.{◌≡◌, true, false, ◌+◌, ◌/◌, ◌<◌, ◌≤◌, ◌↔◌, ◌++◌, length, IsOk, OnOk, OnErr, IsErrOf};
 ghost use Rattle.wire.specs.Bytes.{patch};
-ghost use Rattle.text.specs.Place.{place_behind, with_text};
-ghost use Rattle.text.specs.Hex.{two_digits, digits_of, hex_text, all_digits, bytes_in, is_dash, are_pairs};
-ghost use Rattle.text.specs.Hex.{unhex_place, unhex_in};
+ghost use Rattle.arrayvec.specs.ArrayString.{array_string_len};
+ghost use Rattle.arrayvec.specs.ArrayVec.{array_vec_len};
+ghost use Rattle.text.specs.Hex.{two_digits, digits_of, hex_text, all_digits, bytes_in, is_dash, are_pairs, is_hex, hex_bytes};
 ghost use Rattle.text.specs.Hex.{value as Hex·value, digit as Hex·digit};
 
-use super::{BAD, put};
+use arrayvec::{ArrayString, ArrayVec};
+use std::error::Error;
+use std::fmt;
+use std::fmt::Write;
 
 // The hex digit of a number below 16. `ten` is the letter for ten, in the case that is wanted.
 pub fn digit(x: u8, ten: u8) -> u8
@@ -16,45 +19,42 @@ pub fn digit(x: u8, ten: u8) -> u8
     if x < 10 { x + 48 } else { x - 10 + ten }
 }
 
-// Puts the two hex digits of b.
-pub fn put_digits(out: &mut [u8], at: usize, b: u8, ten: u8) -> usize
+// The two hex digits of b.
+pub fn two_digits(b: u8, ten: u8) -> [u8; 2]
     requires { ten < 128 }
-    ensures value { result ≡ place_behind out.old at (two_digits ten b) }
-    ensures out_after { out.new ≡ with_text out.old at (two_digits ten b) }
+    ensures { result ≡ two_digits ten b }
 {
     let high = digit(b / 16, ten);
     let low = digit(b % 16, ten);
-    put(out, at, &[high, low])
+    [high, low]
 }
 
-// Puts the digits of all of s, for which out has room.
-fn put_all(out: &mut [u8], at: usize, s: &[u8])
-    requires { at + 2 * length s.now ≤ length out.old }
-    ensures { out.new ≡ patch out.old at (digits_of (length s.now) s.now) }
+// Puts the two digits of b behind the text, which has room for them.
+fn push_digits<const N: usize>(out: &mut ArrayString<N>, b: u8)
+    requires { array_string_len out.old + 2 ≤ N }
+    ensures { out.new.bytes ≡ out.old.bytes ++ two_digits 0x61 b }
 {
-    let mut i = 0;
-    while i < s.len() {
-        put_digits(out, at + 2 * i, s[i], b'a');
-        i += 1;
-    }
+    let [high, low] = two_digits(b, b'a');
+    out.push(char::from(high));
+    out.push(char::from(low));
 }
 
-// Puts the bytes of s as hex digits in lower case, `-` for none.
-pub fn put_hex(out: &mut [u8], at: usize, s: &[u8]) -> usize
-    ensures value { result ≡ place_behind out.old at (hex_text s.now) }
-    ensures out_after { out.new ≡ with_text out.old at (hex_text s.now) }
+// Puts the bytes of s as hex digits in lower case behind the text, `-` for none. Where it has no room for all of them it stays as it is.
+pub fn put_hex<const N: usize>(out: &mut ArrayString<N>, s: &[u8]) -> fmt::Result
+    ensures room { IsOk result ↔ (array_string_len out.old + length (hex_text s.now) ≤ N) }
+    ensures ok { OnOk result (out.new.bytes ≡ out.old.bytes ++ hex_text s.now) }
+    ensures err { OnErr result (out.new ≡ out.old) }
 {
-    if s.len() == 0 {
-        return put(out, at, b"-");
+    if s.is_empty() {
+        return out.write_str("-");
     }
-    if out.len() < at {
-        return BAD;
+    if out.remaining_capacity() / 2 < s.len() {
+        return Err(fmt::Error);
     }
-    if (out.len() - at) / 2 < s.len() {
-        return BAD;
+    for &b in s {
+        push_digits(out, b);
     }
-    put_all(out, at, s);
-    at + 2 * s.len()
+    Ok(())
 }
 
 // The 40 hex digits of 20 bytes.
@@ -62,11 +62,14 @@ pub fn hex20(d: [u8; 20]) -> [u8; 40]
     ensures { result ≡ digits_of 20 d }
 {
     let mut text = [0u8; 40];
-    put_all(&mut text, 0, &d);
+    for (i, &b) in d.iter().enumerate() {
+        wire::put(&mut text, 2 * i, &two_digits(b, b'a'));
+    }
     text
 }
 
-// The value of a hex digit in either case, or 16.
+// The value of a hex digit in either case, or 16: no Option, since of other bytes too `all_digits` and `number_of` promise what they
+// answer, by this 16.
 pub fn value(c: u8) -> u8
     ensures { result ≡ Hex·value c }
 {
@@ -82,82 +85,69 @@ pub fn value(c: u8) -> u8
 pub fn all_digits(s: &[u8], base: u8) -> bool
     ensures { result ≡ all_digits base (length s.now) s.now }
 {
-    let mut all = true;
-    let mut i = 0;
-    while i < s.len() {
-        all = choice::and(all, value(s[i]) < base);
-        i += 1;
-    }
-    all
+    s.iter().all(|&c| value(c) < base)
 }
 
 // Is s `-` alone?
 fn is_dash(s: &[u8]) -> bool
     ensures { result ≡ is_dash s.now }
 {
-    choice::and(s.len() == 1, wire::at(s, 0) == b'-')
+    s.len() == 1 && s[0] == b'-'
 }
 
 // Does s hold a pair of digits, or more?
 fn are_pairs(s: &[u8]) -> bool
     ensures { result ≡ are_pairs s.now }
 {
-    choice::and(
-        s.len() != 0,
-        choice::and(s.len() % 2 == 0, all_digits(s, 16)),
-    )
+    !s.is_empty() && s.len() % 2 == 0 && all_digits(s, 16)
 }
 
-// The byte of the pair of digits at i.
-fn byte_of(s: &[u8], i: usize) -> u8
-    requires { (2 * i + 1 < length s.now) × (all_digits 16 (length s.now) s.now ≡ true) }
-    ensures { result ≡ Hex·value (get_or s.now (2 * i) 0) * 16 + Hex·value (get_or s.now (2 * i + 1) 0) }
-{
-    let high = value(s[2 * i]);
-    let low = value(s[2 * i + 1]);
-    high * 16 + low
+// Why no bytes were read.
+#[derive(Clone, Copy, Debug, PartialEq, Eq)]
+pub enum HexError {
+    NotHex,
+    NoRoom,
 }
 
-// Puts the n bytes of s's pairs of digits, for which out has room.
-fn put_bytes(s: &[u8], n: usize, out: &mut [u8], at: usize)
-    requires { (2 * n ≤ length s.now) × (all_digits 16 (length s.now) s.now ≡ true) × (at + n ≤ length out.old) }
-    ensures { out.new ≡ patch out.old at (bytes_in n s.now) }
-{
-    let mut i = 0;
-    while i < n {
-        let b = byte_of(s, i);
-        wire::put(out, at + i, &[b]);
-        i += 1;
+impl fmt::Display for HexError {
+    fn fmt<W: Write>(&self, f: &mut fmt::Formatter<W>) -> fmt::Result {
+        f.write_str(match self {
+            HexError::NotHex => "not hex",
+            HexError::NoRoom => "no room for the bytes",
+        })
     }
 }
 
-// Puts the bytes of s's pairs of digits, and answers as put does.
-fn put_pairs(s: &[u8], out: &mut [u8], at: usize) -> usize
-    requires { all_digits 16 (length s.now) s.now ≡ true }
-    ensures value { result ≡ place_behind out.old at (bytes_in (length s.now / 2) s.now) }
-    ensures out_after { out.new ≡ with_text out.old at (bytes_in (length s.now / 2) s.now) }
+impl Error for HexError {}
+
+// Puts the bytes of s's pairs of digits behind those of out, which has room for them.
+fn push_pairs<const N: usize>(s: &[u8], out: &mut ArrayVec<u8, N>)
+    requires digits { all_digits 16 (length s.now) s.now ≡ true }
+    requires room { array_vec_len out.old + length s.now / 2 ≤ N }
+    ensures { out.new.items ≡ out.old.items ++ bytes_in (length s.now / 2) s.now }
 {
-    let n = s.len() / 2;
-    if out.len() < at {
-        return BAD;
+    for i in 0..s.len() / 2 {
+        out.push(value(s[2 * i]) * 16 + value(s[2 * i + 1]));
     }
-    if out.len() - at < n {
-        return BAD;
-    }
-    put_bytes(s, n, out, at);
-    at + n
 }
 
-// Puts the bytes that s says in hex, and answers as put does; `-` stands for none. Where s is no hex, BAD, and out stays as it is.
-pub fn unhex(s: &[u8], out: &mut [u8], at: usize) -> usize
-    ensures value { result ≡ unhex_place s.now out.old at }
-    ensures out_after { out.new ≡ unhex_in s.now out.old at }
+// Puts the bytes that s says in hex behind those of out; `-` stands for none. On an error out stays as it is.
+pub fn unhex<const N: usize>(s: &[u8], out: &mut ArrayVec<u8, N>) -> Result<(), HexError>
+    ensures not_hex { IsErrOf result HexError.NotHex ↔ (is_hex s.now ≡ false) }
+    ensures room { IsOk result ↔ (is_hex s.now ≡ true) × (array_vec_len out.old + length (hex_bytes s.now) ≤ N) }
+    ensures ok { OnOk result (out.new.items ≡ out.old.items ++ hex_bytes s.now) }
+    ensures err { OnErr result (out.new ≡ out.old) }
 {
+    let room = out.remaining_capacity();
     if is_dash(s) {
-        return put(out, at, b"");
+        return Ok(());
     }
-    if are_pairs(s) {
-        return put_pairs(s, out, at);
+    if !are_pairs(s) {
+        return Err(HexError::NotHex);
     }
-    BAD
+    if room < s.len() / 2 {
+        return Err(HexError::NoRoom);
+    }
+    push_pairs(s, out);
+    Ok(())
 }

@@ -1,58 +1,73 @@
 // What a program that reads lines says at its end, on standard error, where something failed: a program has no exit status to say it by.
 // The scripts in tools/ make one of it.
-use super::digits::decimal;
+ghost use Rattle.std.specs.Prelude.{◌≡◌, true, ◌+◌, ◌-◌, ◌^◌, ◌++◌, ◌==◌, ◌&&◌, Some, if◌then◌else◌, min, codes, decimal};
+
+use std::fmt;
 use std::io::Write;
 
-// How a run over the lines of standard input went: how many lines could not be read as what they are to be, and whether all answers
-// were written.
+// How a run over the lines of an input went: how many lines could not be read as what they are to be, and whether all answers were
+// written.
 #[derive(Clone, Copy)]
 pub struct Told {
     pub unread: u64,
     pub written: bool,
 }
 
+// So many lines that could not be read.
+#[derive(Clone, Copy)]
+struct Unread(u64);
+
+impl fmt::Display for Unread {
+    ghost output = { λ n. Some (if n.0 == 1 then codes "1 line could not be read" else decimal n.0 ++ codes " lines could not be read") };
+
+    fn fmt<W: fmt::Write>(&self, f: &mut fmt::Formatter<W>) -> fmt::Result {
+        if self.0 == 1 {
+            return write!(f, "1 line could not be read");
+        }
+        write!(f, "{} lines could not be read", self.0)
+    }
+}
+
 // One more of a count that stays at its largest number.
-pub fn counted(n: u64) -> u64 {
-    if n < u64::MAX { n + 1 } else { n }
+pub fn counted(n: u64) -> u64
+    ensures { result ≡ min (n + 1) (2 ^ 64 - 1) }
+{
+    n.saturating_add(1)
 }
 
-// One line more was answered: was it one that could be read, and was the answer written?
-pub fn one_more(told: Told, read: bool, written: bool) -> Told {
-    let unread = told.unread;
-    Told {
-        unread: if read { unread } else { counted(unread) },
-        written: choice::and(told.written, written),
+impl Told {
+    // Before any line was answered.
+    pub fn new() -> Told
+        ensures { (result.unread ≡ 0) × (result.written ≡ true) }
+    {
+        Told {
+            unread: 0,
+            written: true,
+        }
     }
-}
 
-// Where not even this can be written, nobody is left to be told.
-fn say<W: Write>(to: &mut W, program: &[u8], what: &[u8]) {
-    let _ = to.write_all(program);
-    let _ = to.write_all(what);
-}
+    // One line more was answered: was it one that could be read, and was the answer written?
+    pub fn count(&mut self, read: bool, written: bool)
+        ensures unread { self.new.unread ≡ (if read then self.old.unread else min (self.old.unread + 1) (2 ^ 64 - 1)) }
+        ensures written { self.new.written ≡ (self.old.written && written) }
+    {
+        if !read {
+            self.unread = counted(self.unread);
+        }
+        self.written = self.written && written;
+    }
 
-fn say_unread<W: Write>(to: &mut W, program: &[u8], unread: u64) {
-    if unread == 1 {
-        say(to, program, b": 1 line could not be read\n");
-        return;
-    }
-    let mut digits = [0u8; 20];
-    let k = decimal(unread, &mut digits);
-    say(to, program, b": ");
-    say(to, &digits[..k], b" lines could not be read\n");
-}
-
-// Says what failed to `to`, the standard error; nothing where nothing did.
-pub fn report<W: Write>(to: &mut W, program: &[u8], input_failed: bool, told: Told) {
-    let unread = told.unread;
-    if 0 < unread {
-        say_unread(to, program, unread);
-    }
-    if input_failed {
-        say(to, program, b": standard input could not be read\n");
-    }
-    let written = told.written;
-    if !written {
-        say(to, program, b": standard output could not be written\n");
+    // Says what failed to `to`, the standard error; nothing where nothing did. Where not even this can be written, nobody is left to be
+    // told.
+    pub fn report<W: Write>(self, to: &mut W, program: &str, input_failed: bool) {
+        if 0 < self.unread {
+            let _ = writeln!(to, "{program}: {}", Unread(self.unread));
+        }
+        if input_failed {
+            let _ = writeln!(to, "{program}: standard input could not be read");
+        }
+        if !self.written {
+            let _ = writeln!(to, "{program}: standard output could not be written");
+        }
     }
 }

@@ -1,39 +1,22 @@
 // The words of a line: spaces and tabs part them, as many as stand there.
-ghost use Rattle.std.specs.Prelude.{◌≡◌, true, false, length};
+ghost use Rattle.std.specs.Prelude.{◌≡◌, Bool, true, false, length};
 ghost use Rattle.text.specs.Words.{is_gap, First, WordAt, WordEnd, unreturned};
 
 // Does c part words?
 fn is_gap(c: u8) -> bool
     ensures { result ≡ is_gap c }
 {
-    choice::or(c == b' ', c == b'\t')
+    c == b' ' || c == b'\t'
 }
 
-// The first place from `at` on that does not part words, or the line's end.
-fn word_start(line: &[u8], at: usize) -> usize
-    ensures { First false at line.now result }
+// The first place from `at` on that parts words, or with `gap` false the first that does not; the line's end where there is none.
+fn first(gap: bool, line: &[u8], at: usize) -> usize
+    ensures { First gap at line.now result }
 {
-    let mut i = at;
-    while i < line.len() {
-        if is_gap(line[i]) {
-            i += 1;
-        } else {
+    for i in at..line.len() {
+        if is_gap(line[i]) == gap {
             return i;
         }
-    }
-    line.len()
-}
-
-// The first place from `at` on that parts words, or the line's end.
-fn gap_start(line: &[u8], at: usize) -> usize
-    ensures { First true at line.now result }
-{
-    let mut i = at;
-    while i < line.len() {
-        if is_gap(line[i]) {
-            return i;
-        }
-        i += 1;
     }
     line.len()
 }
@@ -42,16 +25,15 @@ fn gap_start(line: &[u8], at: usize) -> usize
 pub fn word_end(line: &[u8], at: usize) -> usize
     ensures { WordEnd at line.now result }
 {
-    let start = word_start(line, at);
-    gap_start(line, start)
+    first(true, line, first(false, line, at))
 }
 
 // The word that is next from `at` on; empty where there is none.
 pub fn word_at(line: &[u8], at: usize) -> &[u8]
     ensures { WordAt at line.now result.now }
 {
-    let start = word_start(line, at);
-    let end = gap_start(line, start);
+    let start = first(false, line, at);
+    let end = first(true, line, start);
     &line[start..end]
 }
 
@@ -59,13 +41,8 @@ pub fn word_at(line: &[u8], at: usize) -> &[u8]
 pub fn without_return(line: &[u8]) -> &[u8]
     ensures { result.now ≡ unreturned line.now }
 {
-    let n = line.len();
-    if n == 0 {
-        return line;
+    match line {
+        [front @ .., b'\r'] => front,
+        _ => line,
     }
-    let k = n - 1;
-    if line[k] == b'\r' {
-        return &line[0..k];
-    }
-    line
 }

@@ -2,7 +2,7 @@
 -- a unit's keys.
 use Rattle.std.proofs.Math.Path.{◌≡◌, refl, sym, ap}
 use Rattle.std.proofs.Common.{◌∙◌, arith, add-one, length-take, length-drop}
-use Rattle.std.specs.Prelude.{Bool, List, ℕ, ◌+◌, ◌-◌, ◌*◌, ◌≤◌, ◌<◌, length, eqb, leb}
+use Rattle.std.specs.Prelude.{Bool, List, ℕ, zero, suc, ◌+◌, ◌-◌, ◌*◌, ◌≤◌, ◌<◌, length, eqb, leb}
 use Rattle.std.proofs.Math.Bool.{true, false}
 use borrow.Author.Tests.{eqb-true, eqb-false, eq-eqb, ne_eqb, leb-true}
 use Rattle.choice.specs.Choice.{both, either, pick}
@@ -25,6 +25,17 @@ keys_zero_lem l = refl
 pub keys_more : (v : ℕ) (l : List ℕ) → keys_zero (v + 1) l ≡ both (keys_zero v l) (either (is_valid v l) (zeros 20 (112 + 20 * v) l))
 unfolding keys_zero
 keys_more v l = rw add-one refl
+
+-- one key that is neither valid nor zero is enough
+pub keys_stop : (n v : ℕ) (l : List ℕ) → v < n → is_valid v l ≡ false → zeros 20 (112 + 20 * v) l ≡ false → keys_zero n l ≡ false
+unfolding keys_zero
+keys_stop zero v l h e z = absurd (omega arith)
+keys_stop (suc n) v l h e z = by_last (eqb v n) refl (λ k. keys_stop n v l k e z)
+  where
+    by_last : (b : Bool) → eqb v n ≡ b → (v < n → keys_zero n l ≡ false)
+        → both (keys_zero n l) (either (is_valid n l) (zeros 20 (112 + 20 * n) l)) ≡ false
+    by_last true q below = rw (← eqb-true v n q, e, z) (both_none (keys_zero v l))
+    by_last false q below = let d = eqb-false v n q in rw (below (omega arith)) refl
 
 -- ---- the state, as the code finds it: the blank record first, then shape and check
 

@@ -1,9 +1,11 @@
 -- Laws of big-endian numbers, over the width: what reads the same bytes reads the same number, a patch apart changes none, the bytes of
 -- a number give it back, and a number's bytes are those that it was read from.
-use Rattle.std.specs.Prelude.{◌≡◌, refl, ◌⊎◌, List, [], ◌∷◌, ◌++◌, ℕ, zero, suc, ◌+◌, ◌*◌, ◌/◌, ◌%◌, ◌^◌, ◌≤◌, ◌<◌, length, get_or, drop}
-use Rattle.std.proofs.Common.{◌∙◌, sym, ap, ap₂, inl, inr, ⊎_elim, arith, add-zero, zero-add, add-suc, add_assoc, mul_assoc, pow-suc, length-append, length-drop, get_or-take, get_or-drop, take-suc}
+use Rattle.std.specs.Prelude.{◌≡◌, refl, ◌⊎◌, List, [], ◌∷◌, ◌++◌, ℕ, zero, suc, ◌+◌, ◌*◌, ◌/◌, ◌%◌, ◌^◌, ◌≤◌, ◌<◌, length, get_or, take, drop}
+use Rattle.std.proofs.Common.{◌∙◌, sym, ap, ap₂, inl, inr, ⊎_elim, arith, add-zero, zero-add, add-suc, add_assoc, mul_assoc, pow-suc, length-append, length-drop, get_or-take, get_or-drop, take-suc, take_all, drop_of_length-le}
+use Rattle.std.proofs.Math.Nat.{pow-le-pow_right}
+use Rattle.std.specs.Int.{w32, from_be_bytes, to_be_bytes}
 use Rattle.std.proofs.Math.ListN.{get_or-append}
-use Rattle.std.proofs.lemmas.List.{get_or_at}
+use Rattle.std.proofs.lemmas.List.{get_or_at, drop-append-le}
 use Rattle.wire.specs.Bytes.{AreBytes, part, number, bytes_of, patch}
 use Rattle.wire.proofs.PatchLaws.{at_outside, at_inside}
 
@@ -27,6 +29,33 @@ pub bytes_length : (n x : ℕ) → length (bytes_of n x) ≡ n
 unfolding bytes_of
 bytes_length zero x = refl
 bytes_length (suc n) x = length-append (bytes_of n (x / 256)) _ ∙ omega (arith, bytes_length n (x / 256))
+
+-- the last bytes of a number are its bytes in a smaller width
+pub bytes_last : (m n x : ℕ) → drop m (bytes_of (m + n) x) ≡ bytes_of n x
+unfolding bytes_of
+bytes_last m zero x = rw (add-zero m) (drop_of_length-le (bytes_of m x) (omega (arith, bytes_length m x)))
+bytes_last m (suc n) x =
+    rw (add-suc m n) (drop-append-le m (bytes_of (m + n) (x / 256)) (x % 256 ∷ []) (omega (arith, bytes_length (m + n) (x / 256)))
+    ∙ ap (λ (l : List ℕ). l ++ (x % 256 ∷ [])) (bytes_last m n (x / 256)))
+
+pub bytes_part : (m n x : ℕ) → part m n (bytes_of (m + n) x) ≡ bytes_of n x
+bytes_part m n x = ap (take n) (bytes_last m n x) ∙ take_all n (bytes_of n x) (omega (arith, bytes_length n x))
+
+-- the library's four bytes of a word
+pub bytes_high : (x : ℕ) → to_be_bytes w32 x ≡ bytes_of 4 x
+unfolding bytes_of
+bytes_high x =
+    let e₂ : x / 256 / 256 ≡ x / 65536 = omega arith in
+    let e₃ : x / 256 / 256 / 256 ≡ x / 16777216 = omega arith in
+    rw (e₃, e₂)
+
+-- the word that the library reads of four bytes
+pub number_high : (a : ℕ) (l : List ℕ) → from_be_bytes w32 (part a 4 l) ≡ number 4 a l
+unfolding number
+number_high a l = omega (arith, byte 0 (omega arith), byte 1 (omega arith), byte 2 (omega arith), byte 3 (omega arith))
+  where
+    byte : (k : ℕ) → k < 4 → get_or (part a 4 l) k 0 ≡ get_or l (a + k) 0
+    byte k h = get_or-take 4 (drop a l) k 0 h ∙ get_or-drop a l k 0
 
 -- a number that fits comes back
 pub number_bytes : (n x : ℕ) → x < 256 ^ n → number n 0 (bytes_of n x) ≡ x
@@ -58,6 +87,13 @@ bytes_number (suc n) a l small h =
     let s : n < length (drop a l) = rw length-drop (omega arith) in
     ap₂ (λ (p : List ℕ) (z : ℕ). p ++ (z ∷ [])) (ap (bytes_of n) q ∙ bytes_number n a l small (omega arith)) (r ∙ sym (get_or-drop a l n 0))
     ∙ sym (take-suc (drop a l) n 0 s)
+
+-- a number of less than eight bytes and one byte more fit 64 bits
+pub number_room : (x i : ℕ) → x < 256 ^ i → i < 8 → x * 256 + 255 < 2 ^ 64
+number_room x i h k =
+    let b : i ≤ 7 = omega arith in
+    let p : 256 ^ i ≤ 256 ^ 7 = pow-le-pow_right {n = 256} (omega arith) b in
+    omega arith
 
 -- the number in a part that holds a number's bytes
 pub number_part : (n a x : ℕ) (l : List ℕ) → x < 256 ^ n → part a n l ≡ bytes_of n x → number n a l ≡ x

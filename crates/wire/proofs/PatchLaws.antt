@@ -8,6 +8,7 @@ use Rattle.std.proofs.Math.ListN.{length, take, drop, get_or, length-append, get
 use Rattle.std.proofs.Math.Nat.{add-sub_cancel_left}
 use Rattle.std.proofs.lemmas.Bool.{eqb-false}
 use Rattle.std.proofs.Math.Seq.{paste, take_at, take-length, drop-drop, get_or-append-add, get_or-take, get_or-drop}
+use Rattle.std.proofs.lemmas.List.Edits.{sets, sets-eq}
 use Rattle.wire.specs.Bytes.{part, patch}
 
 pub length_patch : (xs : List ℕ) (a : ℕ) (ys : List ℕ) → a + length ys ≤ length xs → length (patch xs a ys) ≡ length xs
@@ -18,6 +19,13 @@ length_patch xs a ys h = simp (length-append, length-take, length-drop) (omega a
 pub patch_paste : (xs : List ℕ) (a : ℕ) (ys : List ℕ) (n : ℕ) → n ≡ length ys → paste xs a ys n ≡ patch xs a ys
 unfolding patch
 patch_paste xs a ys n e = rw (e, take-length ys, append_assoc (take a xs) ys, drop-drop (length ys) a xs)
+
+-- a patch is made of stores one after another
+pub patch_sets : (xs : List ℕ) (a : ℕ) (ys : List ℕ) → a + length ys ≤ length xs → patch xs a ys ≡ sets xs a ys
+unfolding patch
+patch_sets xs a ys h =
+    ap (λ (l : List ℕ). take a xs ++ (ys ++ l)) (drop-drop (length ys) a xs)
+    ∙ sym (append_assoc (take a xs) ys (drop (a + length ys) xs)) ∙ sym (sets-eq ys xs a h)
 
 -- a patch of no bytes, and one of all
 pub patch_none : (xs : List ℕ) (a : ℕ) → patch xs a [] ≡ xs

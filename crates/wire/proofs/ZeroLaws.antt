@@ -1,6 +1,6 @@
 -- Laws of a run of zeros: as a loop finds it, and as a list has it.
-use Rattle.std.specs.Prelude.{◌≡◌, refl, ◌⊎◌, Bool, true, false, List, ℕ, zero, suc, ◌+◌, ◌-◌, ◌≤◌, ◌<◌, eqb, ltb, length, get_or, replicate, drop}
-use Rattle.std.proofs.Common.{◌∙◌, sym, ap, inl, inr, ⊎_elim, arith, add-zero, length-take, length-drop, ext_get_or, get_or-take, get_or-drop, eq-eqb, ne_eqb, eqb-true, ltb-true, ltb-false}
+use Rattle.std.specs.Prelude.{◌≡◌, refl, ◌⊎◌, Bool, true, false, List, ℕ, zero, suc, ◌+◌, ◌-◌, ◌≤◌, ◌<◌, eqb, ltb, length, get_or, replicate, take, drop, min}
+use Rattle.std.proofs.Common.{◌∙◌, sym, ap, inl, inr, ⊎_elim, arith, add-zero, zero-add, length-take, length-drop, ext_get_or, get_or-take, get_or-drop, eq-eqb, ne_eqb, eqb-true, ltb-true, ltb-false}
 use Rattle.std.specs.Int.Bits.{bit_or}
 use Rattle.std.proofs.Math.ListN.{get_or-eq_default}
 use Rattle.std.proofs.lemmas.List.{get_or-replicate, length-replicate}
@@ -64,6 +64,47 @@ zeros_done any i e l end = rw (left end) (both_right (eqb any 0))
     both_right : (t : Bool) → t ≡ both t true
     both_right true = refl
     both_right false = refl
+
+-- the loop runs over those of the n bytes from a on that the list has; each of them is one of its items, at a place a with room left
+module _ (n a start end : ℕ) (l : List ℕ) (from : start ≡ min a end) (to : end ≡ min (a + n) (length l)) where
+  items : List ℕ
+  items = take (end - start) (drop start l)
+
+  item_at : (i : ℕ) → i < end - start → get_or items i 0 ≡ get_or l (a + i) 0
+  unfolding items
+  item_at i h =
+      let e : start ≡ a = omega arith in
+      get_or-take (end - start) (drop start l) i 0 h ∙ get_or-drop start l i 0 ∙ ap (λ (k : ℕ). get_or l (k + i) 0) e
+
+  count : length items ≡ end - start
+  unfolding items
+  count = simp (length-take, length-drop) (omega arith)
+
+  pub zeros_lent : zeros (length (take (end - start) (drop start l))) 0 (take (end - start) (drop start l)) ≡ zeros n a l
+  unfolding items
+  zeros_lent = both_ways (zeros (length items) 0 items) (zeros n a l) there back
+    where
+      both_ways : (s t : Bool) → (s ≡ true → t ≡ true) → (t ≡ true → s ≡ true) → s ≡ t
+      both_ways true t f g = sym (f refl)
+      both_ways false true f g = g refl
+      both_ways false false f g = refl
+
+      there : zeros (length items) 0 items ≡ true → zeros n a l ≡ true
+      there z = zeros_all n a l (λ i h. by_place i h (ltb i (end - start)) refl)
+        where
+          by_place : (i : ℕ) → i < n → (b : Bool) → ltb i (end - start) ≡ b → get_or l (a + i) 0 ≡ 0
+          by_place i h true e =
+              let k : i < end - start = ltb-true i (end - start) e in
+              sym (item_at i k) ∙ rw (zero-add i) at (zeros_at (length items) 0 items z i (rw count k))
+          by_place i h false e =
+              let k : end - start ≤ i = ltb-false i (end - start) e in
+              get_or-eq_default l 0 (omega arith)
+
+      back : zeros n a l ≡ true → zeros (length items) 0 items ≡ true
+      back z =
+          zeros_all (length items) 0 items
+          (λ i h. let k : i < end - start = rw count at h in
+          rw (zero-add i) (item_at i k ∙ zeros_at n a l z i (omega arith)))
 
 pub zeros_none : (n a : ℕ) (l : List ℕ) → n ≡ 0 → zeros n a l ≡ true
 unfolding zeros

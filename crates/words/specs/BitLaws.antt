@@ -1,13 +1,13 @@
 -- The machine's operations on words are those of the standard, bit by bit, and Ch and Maj by fewer operations are the standard's. An
 -- identity of three numbers by AND and XOR holds where it holds of bits, so each is a table of eight rows, computed.
-use Rattle.std.specs.Prelude.{◌≡◌, ℕ, zero, suc, ◌+◌, ◌-◌, ◌*◌, ◌/◌, ◌%◌, ◌^◌, ◌<◌, min, max, ◌⊎◌, [], ◌∷◌, bit_and, bit_or, bit_xor}
+use Rattle.std.specs.Prelude.{◌≡◌, ℕ, zero, suc, ◌+◌, ◌-◌, ◌*◌, ◌/◌, ◌%◌, ◌^◌, ◌<◌, min, max, ◌⊎◌, bit_and, bit_or, bit_xor, [], ◌∷◌}
 use Rattle.std.proofs.Math.Path.{refl, sym, ap}
 use Rattle.std.proofs.Common.{ap₂, ◌∙◌, inl, inr, div-le_self, lt_of_le_of_lt}
 use native.Mathlib.Omega.{arith}
 use Rattle.std.specs.Int.Bits.{differ, and_step, or_step, xor_step, and_lt, xor_add_and}
 use Rattle.std.proofs.lemmas.Nat.{and_shr, xor_shr, and_mod, xor_mod, xor_lt, and_comm, and_mask}
-use Rattle.wire.specs.Bytes.{bytes_of}
 use Rattle.words.specs.Words.{bits, and32, or32, xor32, not32, rotl, ch, parity, maj, bytes32}
+use Rattle.wire.specs.Bytes.{bytes_of}
 
 -- an expression in three numbers
 data Expr : Type 0 where

@@ -10,21 +10,14 @@ pub fn rotl(x: u32, n: u32) -> u32
     requires { (0 < n) × (n < 32) }
     ensures { result ≡ rotl n x }
 {
-    (x << n) | (x >> (32 - n))
+    x.rotate_left(n)
 }
 
 // x + y, modulo 2^32.
 pub fn add(x: u32, y: u32) -> u32
     ensures { result ≡ add32 x y }
 {
-    ((x as u64 + y as u64) % 0x1_0000_0000) as u32
-}
-
-// x + y, modulo 2^64.
-pub fn add64(x: u64, y: u64) -> u64
-    ensures { result ≡ (x + y) % 2 ^ 64 }
-{
-    std::num::wrapping_add_u64(x, y)
+    x.wrapping_add(y)
 }
 
 // By three operations in the place of four; Maj by four in the place of five.
@@ -53,28 +46,12 @@ pub fn xor4(v: u32, x: u32, y: u32, z: u32) -> u32
     v ^ x ^ y ^ z
 }
 
-fn wide(x: u8) -> u32
-    ensures { (result ≡ x) × (result < 256) }
-{
-    x as u32
-}
-
 // The big-endian word at index i of s.
 pub fn load(s: &[u8], i: usize) -> u32
     requires { i + 3 < length s.now }
     ensures { result ≡ word_at s.now i }
 {
-    let a = wide(s[i]);
-    let b = wide(s[i + 1]);
-    let c = wide(s[i + 2]);
-    let d = wide(s[i + 3]);
-    ((a * 256 + b) * 256 + c) * 256 + d
-}
-
-fn low(x: u32) -> u8
-    ensures { result ≡ x % 256 }
-{
-    (x % 256) as u8
+    u32::from_be_bytes(wire::array(s, i))
 }
 
 // Stores the big-endian bytes of x from index i on.
@@ -82,8 +59,5 @@ pub fn store(s: &mut [u8], i: usize, x: u32)
     requires { i + 3 < length s.old }
     ensures { s.new ≡ sets s.old i (bytes32 x) }
 {
-    s[i] = low(x >> 24);
-    s[i + 1] = low(x >> 16);
-    s[i + 2] = low(x >> 8);
-    s[i + 3] = low(x);
+    s[i..i + 4].copy_from_slice(&x.to_be_bytes());
 }

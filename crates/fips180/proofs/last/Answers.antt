@@ -9,17 +9,6 @@ use Rattle.fips180.proofs.RunningLaws.{finished}
 use borrow.Author.Rules.{rules}
 use Rattle.fips180.proofs.last.Goals as goal
 
-pub overflow_add-n : goal.overflow_add-n
-overflow_add-n c = omega (arith, ending_fits c.args.total (length c.args.tail.now) c.requires)
-
-pub overflow_add-n-2 : goal.overflow_add-n-2
-overflow_add-n-2 c = omega (arith, ending_fits c.args.total (length c.args.tail.now) c.requires)
-
-pub slice_bounds-b-end : goal.slice_bounds-b-end
-slice_bounds-b-end c =
-    let full : length c.ending-b.result ≡ 128 = search rules in
-    omega (arith, ending_fits c.args.total (length c.args.tail.now) c.requires)
-
 pub slice_bounds-whole_blocks-end : goal.slice_bounds-whole_blocks-end
 slice_bounds-whole_blocks-end c =
     let full : length c.ending-b.result ≡ 128 = search rules in

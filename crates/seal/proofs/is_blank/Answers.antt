@@ -5,13 +5,13 @@ use Rattle.wire.specs.Bytes.{same}
 use Rattle.seal.specs.BlankLaws.{blank_where}
 use Rattle.seal.proofs.is_blank.Goals as goal
 
-pub returns-then-same20 : goal.returns-then-same20
-returns-then-same20 c =
+pub returns-then-same : goal.returns-then-same
+returns-then-same c =
     c.are_zeros.ensures
-    ∙ blank_where _ c.blank_check.result true c.requires c.blank_check.ensures
-    (sym (c.same20.ensures ∙ ap (λ x. same x c.blank_check.result) c.bytes20.ensures) ∙ c.if-same20.true)
+    ∙ blank_where _ c.blank_check.result true c.told-rec c.blank_check.ensures
+    (sym (c.same.ensures ∙ ap (λ x. same x c.blank_check.result) c.array.ensures) ∙ c.if-same.true)
 
-pub returns : goal.returns
-returns c =
-    blank_where _ c.blank_check.result false c.requires c.blank_check.ensures
-    (sym (c.same20.ensures ∙ ap (λ x. same x c.blank_check.result) c.bytes20.ensures) ∙ c.if-same20.false)
+pub returns-else-same : goal.returns-else-same
+returns-else-same c =
+    c.if-same.false ∙ blank_where _ c.blank_check.result false c.told-rec c.blank_check.ensures
+    (sym (c.same.ensures ∙ ap (λ x. same x c.blank_check.result) c.array.ensures) ∙ c.if-same.false)

@@ -6,4 +6,4 @@ use Rattle.seal.proofs.is_checked.Goals as goal
 
 pub returns : goal.returns
 unfolding checked
-returns c = c.same20.ensures ∙ ap₂ same c.bytes20-stored.ensures c.check_of-made.ensures
+returns c = c.same.ensures ∙ ap₂ same c.array.ensures c.check_of.ensures

@@ -8,5 +8,5 @@ use Rattle.seal.proofs.make_blank.Goals as goal
 
 pub returns : goal.returns
 returns c =
-    let p = c.put in
-    p.ensures ∙ ap (patch _ 492) c.blank_check.ensures ∙ blank_made _ (c.clear.ensures ∙ ap (λ (n : ℕ). replicate n 0) c.requires)
+    c.put.ensures ∙ ap (patch _ 492) c.blank_check.ensures
+    ∙ blank_made _ (c.fill.ensures.after (λ y h. h) ∙ ap (λ (n : ℕ). replicate n 0) c.told-rec)

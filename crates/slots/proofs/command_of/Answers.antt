@@ -11,11 +11,11 @@ use Rattle.slots.proofs.command_of.Goals as goal
 pub slice_bounds-result-end : goal.slice_bounds-result-end
 unfolding command_length
 slice_bounds-result-end c =
-    omega (arith, c.be16-n.ensures, (open_fits c.args.rec.now c.requires.1).0)
+    omega (arith, c.number-n.ensures.value, (open_fits c.args.held.rec.now c.args.held.open).0)
 
 pub returns : goal.returns
 unfolding slot_command command_length
 returns c =
-    let l = c.args.rec.now in
-    let k = c.be16-n in
-    lent_part l 8 k.result ∙ ap (λ (n : ℕ). part 8 n l) k.ensures
+    let l = c.args.held.rec.now in
+    let k = c.number-n in
+    lent_part l 8 k.result ∙ ap (λ (n : ℕ). part 8 n l) k.ensures.value

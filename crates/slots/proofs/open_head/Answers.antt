@@ -5,4 +5,4 @@ use Rattle.slots.proofs.open_head.Goals as goal
 
 pub returns : goal.returns
 unfolding open_head bytes_of
-returns c = rw (c.bytes2-t.ensures, c.bytes2-c.ensures, c.bytes2-u.ensures)
+returns c = rw (c.bytes_of-t.ensures, c.bytes_of-c.ensures, c.bytes_of-u.ensures)

@@ -11,11 +11,11 @@ use Rattle.slots.proofs.token_of.Goals as goal
 pub slice_bounds-result-end : goal.slice_bounds-result-end
 unfolding token_length
 slice_bounds-result-end c =
-    omega (arith, c.be16-m.ensures, (open_fits c.args.rec.now c.requires.1).1)
+    omega (arith, c.number-m.ensures.value, (open_fits c.args.held.rec.now c.args.held.open).1)
 
 pub returns : goal.returns
 unfolding slot_token token_length
 returns c =
-    let l = c.args.rec.now in
-    let k = c.be16-m in
-    lent_part l 108 k.result ∙ ap (λ (n : ℕ). part 108 n l) k.ensures
+    let l = c.args.held.rec.now in
+    let k = c.number-m in
+    lent_part l 108 k.result ∙ ap (λ (n : ℕ). part 108 n l) k.ensures.value

@@ -1,32 +1,25 @@
 -- The keys of the versions so far are zero where the mask does not call them valid.
-use mathlib.Core.Path.{◌≡◌, sym, ap, ap₂, ◌∙◌}
-use Prim.Native.Nat.{ℕ, ◌/◌, ◌%◌, ◌^◌}
+use mathlib.Core.Path.{sym}
 use native.Mathlib.Omega.{arith}
-use lib.Dec.{eqb}
-use Rattle.choice.specs.Choice.{both, either}
+use Rattle.std.proofs.lemmas.Grind.{common_steps}
 use Rattle.units.specs.Unit.{is_valid}
-use Rattle.units.proofs.UnitLaws.{keys_zero_lem, keys_more}
+use Rattle.units.proofs.UnitLaws.{keys_zero_lem, keys_more, keys_stop}
 use Rattle.units.proofs.keys_zero.Goals as goal
+use Rattle.units.proofs.keys_zero.Goals.{else-not-valid-via-then-not-valid+else-not-are_zeros, else-not-valid-via-else-not-valid}
 
 pub loop-v-init : goal.loop-v-init
-loop-v-init c = (omega arith, c.mask_of-mask.ensures, sym (keys_zero_lem _))
+loop-v-init c = (c.mask_of-mask.ensures, keys_zero_lem _)
+
+pub returns-then-not-are_zeros : goal.returns-then-not-are_zeros
+unfolding is_valid
+returns-then-not-are_zeros c = sym (keys_stop 16 c.loop-v.v _ (omega arith) (grind (arith, common_steps)) (grind (arith, common_steps)))
 
 pub loop-v-preserved : goal.loop-v-preserved
 unfolding is_valid
-loop-v-preserved c =
-    let l = c.loop-v in
-    let v : ℕ = l.v in
-    let bit = c.has_bit.ensures ∙ ap (λ (m : ℕ). eqb (m / 2 ^ v % 2) 1) l.invariant.1 in (
-      omega arith,
-      l.invariant.1,
-      c.and-ok.ensures
-          ∙ ap₂ both l.invariant.2
-          (c.or.ensures ∙ ap₂ either bit c.are_zeros-empty.ensures)
-          ∙ sym (keys_more v _),
-    )
-
-pub returns : goal.returns
-returns c =
-    let l = c.loop-v in
-    let e : l.v ≡ 16 = omega arith in
-    rw e at l.invariant.2
+loop-v-preserved c = (
+  c.loop-v.invariant.0,
+  elim c.else-not-valid.branch [
+    | else-not-valid-via-then-not-valid+else-not-are_zeros w ↦ grind (arith, common_steps, keys_more)
+    | else-not-valid-via-else-not-valid w ↦ grind (arith, common_steps, keys_more)
+  ],
+)

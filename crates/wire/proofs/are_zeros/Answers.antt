@@ -1,25 +1,15 @@
 -- The or of the bytes so far and the zeros that are left decide together; at the end none are left.
-use mathlib.Core.Path.{◌≡◌, ◌∙◌}
-use mathlib.Core.Logic.{inl, inr, ⊎_elim}
-use Prim.Native.Nat.{◌+◌, ◌-◌}
-use native.Mathlib.Omega.{arith}
-use Rattle.wire.proofs.ZeroLaws.{zeros_more, zeros_done}
+use Rattle.std.proofs.Common.{◌∙◌, ◌-◌, List, ℕ, length, take, drop, inl, arith}
+use Rattle.wire.proofs.ZeroLaws.{zeros_more, zeros_done, zeros_lent}
 use Rattle.wire.proofs.are_zeros.Goals as goal
 
-pub loop-i-init : goal.loop-i-init
-loop-i-init c = let g = c.args in
-    let e : g.a + g.n - g.a ≡ g.n = omega arith in
-    (omega arith, rw e)
-
-pub loop-i-preserved : goal.loop-i-preserved
-loop-i-preserved c =
-    let l = c.loop-i in
-    let g = c.args in
-    (omega arith, zeros_more l.any l.i (g.a + g.n) g.s.now (omega arith) ∙ l.invariant.1)
+pub loop-x-preserved : goal.loop-x-preserved
+loop-x-preserved c =
+    let items : List ℕ = take (c.min-end.result - c.min.result) (drop c.min.result c.args.s.now) in
+    zeros_more c.loop-x.any c.loop-x.x-index (length items) items (omega arith) ∙ c.loop-x.invariant
 
 pub returns : goal.returns
 returns c =
-    let l = c.loop-i in
-    let g = c.args in
-    let h = c.least-end.ensures.2 in
-    zeros_done l.any l.i (g.a + g.n) g.s.now (⊎_elim (λ e. inl (omega arith)) (λ e. inr (omega arith)) h) ∙ l.invariant.1
+    let items : List ℕ = take (c.min-end.result - c.min.result) (drop c.min.result c.args.s.now) in
+    zeros_done c.loop-x.any c.loop-x.x-index (length items) items (inl (omega arith)) ∙ c.loop-x.invariant
+    ∙ zeros_lent c.args.n c.args.a c.min.result c.min-end.result c.args.s.now c.min.ensures c.min-end.ensures

@@ -1,18 +1,15 @@
--- Four stores are `sets` of four bytes.
-use Rattle.std.proofs.Common.{◌≡◌, ℕ, suc, ◌+◌, arith, length-set}
-use Rattle.words.specs.BitLaws.{by_shifts}
+-- The lent part came back as the word's bytes.
+use Rattle.std.proofs.Common.{◌∙◌, arith}
+use Rattle.wire.proofs.NumberLaws.{bytes_high, bytes_length}
+use Rattle.wire.proofs.PatchLaws.{patch_lent, patch_sets}
+use Rattle.words.specs.Words.{bytes32}
 use Rattle.words.proofs.store.Goals as goal
-
-pub bounds-s-i-2 : goal.bounds-s-i-2
-bounds-s-i-2 c = simp length-set (omega arith)
-
-pub bounds-s-i-3 : goal.bounds-s-i-3
-bounds-s-i-3 c = simp length-set (omega arith)
 
 pub returns : goal.returns
 returns c =
-    let i : ℕ = c.args.i in
-    let e₁ : i + 1 ≡ suc i = omega arith in
-    let e₂ : i + 2 ≡ suc (suc i) = omega arith in
-    let e₃ : i + 3 ≡ suc (suc (suc i)) = omega arith in
-    rw by_shifts (cc)
+    let w = c.copy_from_slice in
+    let l = c.args.s.now in
+    let i = c.args.i in
+    let x = c.args.x in
+    patch_lent l i 4 w.new.self (bytes32 x) (omega arith) w.auto.self (w.ensures.after ∙ c.to_be_bytes.ensures ∙ bytes_high x)
+    ∙ patch_sets l i (bytes32 x) (omega (arith, bytes_length 4 x))

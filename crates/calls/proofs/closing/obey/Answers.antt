@@ -1,12 +1,9 @@
 -- One record is made anew, at its place or at its keeper's.
-use mathlib.Core.Path.{sym, ap, ◌∙◌}
-use Prim.Native.Nat.{◌*◌}
-use native.Mathlib.Omega.{arith}
-use Rattle.wire.proofs.PatchLaws.{patch_lent, lent_part}
+use Rattle.std.proofs.Math.Path.{sym, ap}
+use Rattle.std.proofs.Common.{◌∙◌}
+use Rattle.seal.specs.SealLaws.{record_put}
 use Rattle.units.specs.Unit.{key_set_of}
 use Rattle.judge.specs.Seen.{seen}
-use Rattle.pages.specs.Out.{new_method, new_tag}
-use Rattle.pages.specs.Effects.{attributes_set, new_keys}
 use Rattle.calls.specs.Whole.{laid}
 use Rattle.calls.proofs.CloseLaws.{made_attributes, made_keys}
 use Rattle.calls.proofs.closing.obey.Goals as goal
@@ -14,19 +11,21 @@ use Rattle.calls.proofs.closing.obey.Goals as goal
 pub returns-then-page-eq-SET_ATTRIBUTES : goal.returns-then-page-eq-SET_ATTRIBUTES
 returns-then-page-eq-SET_ATTRIBUTES c =
     let a = c.args in
-    let w = c.set_attributes in
-    let s = seen a.units.now a.unit.0 in
-    patch_lent a.units.now (a.unit.0 * 512) 512 _ _ (omega arith) w.auto.own (w.ensures ∙ ap (attributes_set (new_method a.list.now) (new_tag a.list.now)) (lent_part a.units.now (a.unit.0 * 512) 512))
-    ∙ ap (laid a.units.now a.unit.0) (sym (made_attributes s a.page a.list.now c.if-page-eq-SET_ATTRIBUTES.true))
+    let w = c.set_attributes.ensures in
+    let s = seen a.units.now a.unit in
+    let k = c.split_at_mut-rest.ensures in
+    let f = rw c.unwrap.ensures at c.first_chunk_mut.ensures.cases in
+    record_put a.units.now _ _ _ _ k.front k.back w.whole
+    ∙ rw (w.set, f.same, k.back, c.no.ensures.same) (ap (laid a.units.now a.unit) (sym (made_attributes s a.page a.list.now c.if-page-eq-SET_ATTRIBUTES.true)))
 
 pub returns-else-page-eq-SET_ATTRIBUTES : goal.returns-else-page-eq-SET_ATTRIBUTES
 unfolding key_set_of
 returns-else-page-eq-SET_ATTRIBUTES c =
     let a = c.args in
-    let w = c.set_keys in
-    let s = seen a.units.now a.unit.0 in
-    let keeper = c.keeper_of-keeper.ensures in
-    let at = keeper.0 in
-    let small = keeper.1 in
-    patch_lent a.units.now (c.keeper_of-keeper.result.0 * 512) 512 _ _ (omega arith) w.auto.keys (w.ensures ∙ ap (new_keys a.page a.list.now) (lent_part a.units.now (c.keeper_of-keeper.result.0 * 512) 512))
-    ∙ rw at (ap (laid a.units.now a.unit.0) (sym (made_keys s a.page a.list.now c.if-page-eq-SET_ATTRIBUTES.false)))
+    let w = c.set_keys.ensures in
+    let s = seen a.units.now a.unit in
+    let k = c.split_at_mut-rest-else-page-eq-SET_ATTRIBUTES.ensures in
+    let f = rw c.unwrap-else-page-eq-SET_ATTRIBUTES.ensures at c.first_chunk_mut-else-page-eq-SET_ATTRIBUTES.ensures.cases in
+    let at = c.no-else-page-eq-SET_ATTRIBUTES.ensures.same ∙ c.keeper_of-keeper.ensures in
+    record_put a.units.now _ _ _ _ k.front k.back w.whole
+    ∙ rw (w.set, f.same, k.back, at) (ap (laid a.units.now a.unit) (sym (made_keys s a.page a.list.now c.if-page-eq-SET_ATTRIBUTES.false)))

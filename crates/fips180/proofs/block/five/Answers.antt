@@ -1,10 +1,10 @@
 -- Each round begins where the one before it left the schedule.
-use native.Mathlib.Omega.{arith}
+use Rattle.std.proofs.Common.{arith}
 use Rattle.fips180.proofs.Sha1Laws.{begun_at, chain_five}
 use Rattle.fips180.proofs.block.five.Goals as goal
 
 pub returns : goal.returns
-returns c =
+returns g c =
     let a = c.args in
     λ b k.
     let e₁ = c.round-s1.ensures b k in

@@ -4,5 +4,5 @@ use Rattle.pages.proofs.effects.exchange.Goals as goal
 
 pub returns : goal.returns
 returns c =
-    let p = c.next_pair-pair.ensures in
+    let p = c.next_pair.ensures in
     exchanged_steps _ _ _ _ _ _ _ p.0 p.1 c.set_step.ensures c.set_next_pair.ensures c.seal_record.ensures

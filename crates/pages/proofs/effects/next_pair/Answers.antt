@@ -7,7 +7,7 @@ pub returns : goal.returns
 unfolding next_gen
 returns c =
     let key = c.gen_key_of-key.ensures in
-    let auth = next_auth_lem c.args.value.now c.args.keys.now c.requires in (
+    let auth = next_auth_lem c.args.value.now c.args.keys.now c.told-keys in (
       simp (c.hmac_of_two-auth.ensures, key, c.flipped_identifier-flipped.ensures, auth),
       simp (c.hmac_of_two-generation.ensures, key, c.identifier_of.ensures),
     )

@@ -1,32 +1,26 @@
--- Each arm does what its page says, with what stands in the list; a page of no arm leaves the key set as it was.
+-- Each arm does what its page says, with what the list says; a page of no arm leaves the key set as it was.
 use Rattle.pages.specs.Effects.{new_keys}
-use Rattle.pages.proofs.FrontLaws.{key_version_lem, key_run, exchange_run, key_obeyed, exchange_obeyed}
-use Rattle.std.proofs.lemmas.Grind.{common_steps}
-use native.Mathlib.Omega.{arith}
+use Rattle.pages.proofs.FrontLaws.{key_said, exchange_said}
 use Rattle.pages.proofs.effects.set_keys.Goals as goal
 
-pub run_of-seed-requires : goal.run_of-seed-requires
-run_of-seed-requires c = key_run _ _ _ c.front_of-f.ensures c.in-20.is c.requires.1
+pub returns-in-Ok-Key : goal.returns-in-Ok-Key
+returns-in-Ok-Key c =
+    let s = rw c.in-Ok-Key.field-0-is at c.in-Ok-Key.ensures.says in
+    record { set = key_said _ _ _ _ _ c.requires.0 _ s.0 s.1 s.2 c.set_key.ensures; whole = c.set_key.array_long }
 
-pub set_key-requires : goal.set_key-requires
-set_key-requires c =
-    (c.requires.0, key_version_lem _ _ _ c.front_of-f.ensures c.in-20.is c.requires.2)
+pub returns-in-Ok-Exchange : goal.returns-in-Ok-Exchange
+returns-in-Ok-Exchange c =
+    let s = rw c.in-Ok-Exchange.field-0-is at c.in-Ok-Exchange.ensures.says in
+    record { set = exchange_said _ _ _ _ _ c.requires.0 s.0 s.1 c.exchange.ensures; whole = c.exchange.array_long }
 
-pub run_of-value-requires : goal.run_of-value-requires
-run_of-value-requires c = exchange_run _ _ _ c.front_of-f.ensures c.in-18.is c.requires.1
-
-pub returns-in-20 : goal.returns-in-20
-returns-in-20 c =
-    key_obeyed _ _ _ c.front_of-f.ensures _ _ _ c.in-20.is c.run_of-seed.ensures c.set_key.ensures
-
-pub returns-in-18 : goal.returns-in-18
-returns-in-18 c =
-    exchange_obeyed _ _ _ c.front_of-f.ensures _ _ _ c.in-18.is c.run_of-value.ensures c.exchange.ensures
-
-pub returns-in-21 : goal.returns-in-21
+pub returns-in-Ok-Change : goal.returns-in-Ok-Change
 unfolding new_keys
-returns-in-21 c = rw c.in-21.is c.change.ensures
+returns-in-Ok-Change c =
+    let s = rw c.in-Ok-Change.field-0-is at c.in-Ok-Change.ensures.says in
+    record { set = rw s c.change.ensures; whole = c.change.array_long }
 
-pub returns-in_default : goal.returns-in_default
+pub returns-in-Ok-Attributes : goal.returns-in-Ok-Attributes
 unfolding new_keys
-returns-in_default c = grind (arith, common_steps)
+returns-in-Ok-Attributes c =
+    let s = rw c.in-Ok-Attributes.field-0-is at c.in-Ok-Attributes.ensures.says in
+    record { set = rw s.0; whole = c.told-keys }

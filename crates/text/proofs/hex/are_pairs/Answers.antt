@@ -1,15 +1,28 @@
 -- The three tests are those of the definition.
+use Rattle.std.proofs.Common.{◌≡◌, ◌%◌, eqb, true, false, length, sym, ap, ◌∙◌}
+use Rattle.std.specs.Prelude.{not}
+use Rattle.std.proofs.lemmas.Bool.{false≢true}
 use Rattle.text.specs.Hex.{are_pairs}
-use mathlib.Core.Path.{◌∙◌, ap}
-use mathlib.Core.Bool.{not}
-use Prim.Native.Nat.{◌%◌}
-use lib.Dec.{eqb}
-use lib.ListN.{length}
-use Rattle.choice.specs.Choice.{both}
 use Rattle.text.proofs.hex.are_pairs.Goals as goal
+use Rattle.text.proofs.hex.are_pairs.Goals.{then-not-is_empty, else-not-is_empty}
 
-pub returns : goal.returns
+pub returns-then-s-eq0 : goal.returns-then-s-eq0
 unfolding are_pairs
-returns c =
-    let s = c.args.s.now in
-    c.and-2.ensures ∙ ap (both (not (eqb (length s) 0))) (c.and.ensures ∙ ap (both (eqb (length s % 2) 0)) c.all_digits.ensures)
+returns-then-s-eq0 c =
+    elim c.if-not-is_empty.branch [
+      | then-not-is_empty w ↦ (let some : eqb (length c.args.s.now) 0 ≡ false = sym c.is_empty.ensures ∙ w.if-not-is_empty.true in
+          let even : eqb (length c.args.s.now % 2) 0 ≡ true = sym w.value-is ∙ c.if-s-eq0.true in
+          rw (some, even) c.all_digits.ensures)
+      | else-not-is_empty w ↦ absurd (false≢true (sym (ap not w.if-not-is_empty.false) ∙ sym w.value-is ∙ c.if-s-eq0.true))
+    ]
+
+pub returns-else-s-eq0 : goal.returns-else-s-eq0
+unfolding are_pairs
+returns-else-s-eq0 c =
+    elim c.if-not-is_empty.branch [
+      | then-not-is_empty w ↦ (let some : eqb (length c.args.s.now) 0 ≡ false = sym c.is_empty.ensures ∙ w.if-not-is_empty.true in
+          let odd : eqb (length c.args.s.now % 2) 0 ≡ false = sym w.value-is ∙ c.if-s-eq0.false in
+          rw (some, odd) c.if-s-eq0.false)
+      | else-not-is_empty w ↦ (let none : eqb (length c.args.s.now) 0 ≡ true = sym c.is_empty.ensures ∙ w.if-not-is_empty.false in
+          rw none c.if-s-eq0.false)
+    ]

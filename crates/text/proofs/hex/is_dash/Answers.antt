@@ -1,13 +1,12 @@
 -- The two tests are those of the definition.
+use Rattle.std.proofs.Common.{eq-eqb, ne_eqb, refl}
 use Rattle.text.specs.Hex.{is_dash}
-use mathlib.Core.Path.{◌∙◌, ap}
-use Prim.Native.Nat.{ℕ}
-use lib.Dec.{eqb}
-use lib.ListN.{length}
-use Rattle.choice.specs.Choice.{both}
 use Rattle.text.proofs.hex.is_dash.Goals as goal
 
-pub returns : goal.returns
+pub returns-then-s-eq1 : goal.returns-then-s-eq1
 unfolding is_dash
-returns c =
-    c.and.ensures ∙ ap (λ (x : ℕ). both (eqb (length c.args.s.now) 1) (eqb x 0x2d)) c.at.ensures
+returns-then-s-eq1 c = rw (eq-eqb _ 1 c.if-s-eq1.true) refl
+
+pub returns-else-s-eq1 : goal.returns-else-s-eq1
+unfolding is_dash
+returns-else-s-eq1 c = rw (ne_eqb _ 1 c.if-s-eq1.false) refl

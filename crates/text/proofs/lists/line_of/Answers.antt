@@ -1,28 +1,24 @@
 -- What is left of the list has the line with what is left of the number.
-use mathlib.Core.Path.{◌≡◌, ◌∙◌, sym, ap}
-use Prim.Native.Nat.{◌-◌}
-use native.Mathlib.Omega.{arith}
-use lib.ListN.{drop}
+use Rattle.std.proofs.Common.{ℕ, ◌+◌, ◌-◌, ◌∙◌, take, sym, ap, arith}
+use Rattle.std.proofs.Math.Seq.{take-length}
 use Rattle.text.specs.Lists.{line_of}
 use Rattle.text.proofs.ListLaws.{line_next, line_here}
-use Prim.Native.Nat.{ℕ, ◌+◌}
 use Rattle.text.proofs.lists.line_of.Goals as goal
 
-pub loop-i-init : goal.loop-i-init
-loop-i-init c =
+pub loop-preserved : goal.loop-preserved
+loop-preserved c =
     let g = c.args in
-    let e : g.k - 0 ≡ g.k = omega arith in
-    (omega arith, ap (λ (n : ℕ). line_of n g.list.now) e)
+    let l = c.loop in
+    ap (line_of (g.k - (l.counter + 1))) c.behind_line-rest.ensures ∙ sym (line_next g.k l.counter l.rest.now (omega arith)) ∙ l.invariant
 
-pub loop-i-preserved : goal.loop-i-preserved
-loop-i-preserved c =
-    let g = c.args in
-    let l = c.loop-i in
-    let p = c.behind_line-at.ensures in
-    (p.upper_bound, ap (line_of (g.k - (l.i + 1))) p.list_value ∙ sym (line_next g.k l.i (drop l.at g.list.now) (omega arith)) ∙ l.invariant.1)
+pub returns-in-Some : goal.returns-in-Some
+returns-in-Some c =
+    let rest = c.loop.rest.now in
+    let stop = c.in-Some.ensures in
+    ap (λ (n : ℕ). take n rest) stop.0 ∙ line_here (c.args.k - c.loop.counter) rest (omega arith) ∙ c.loop.invariant
 
-pub returns : goal.returns
-returns c =
-    let g = c.args in
-    let l = c.loop-i in
-    line_here g.k l.i l.at _ g.list.now (omega arith) c.find-stop.ensures.place ∙ l.invariant.1
+pub returns-in-None : goal.returns-in-None
+returns-in-None c =
+    let rest = c.loop.rest.now in
+    let none = c.in-None.ensures in
+    sym (take-length rest) ∙ ap (λ (n : ℕ). take n rest) (sym none) ∙ line_here (c.args.k - c.loop.counter) rest (omega arith) ∙ c.loop.invariant

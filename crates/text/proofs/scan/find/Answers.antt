@@ -1,22 +1,20 @@
--- The search goes on behind each byte that is another, and ends at the byte or at the end.
-use Rattle.std.proofs.Common.{◌≡◌, ◌∙◌, ap, arith}
-use Rattle.text.proofs.ScanLaws.{found, found_next, found_here, found_none}
+-- The byte stands at no place, or at the first that has it.
+use Rattle.std.proofs.Common.{ℕ, ◌≡◌, ◌<◌, length, get_or, rules}
+use Rattle.std.specs.Prelude.{Option, Some, None, MatchOption, List}
+use Rattle.text.specs.Scan.{index_of}
+use Rattle.text.proofs.ScanLaws.{index_none, index_found}
 use Rattle.text.proofs.scan.find.Goals as goal
 
-pub loop-i-preserved : goal.loop-i-preserved
-loop-i-preserved c =
-    let g = c.args in
-    let l = c.loop-i in
-    (omega arith, omega arith, found_next g.c g.s.now g.end l.i (omega arith) (omega arith) (λ e. omega arith) ∙ l.invariant.2)
+placed : (c : ℕ) (s : List ℕ) (r : Option ℕ)
+    → MatchOption r ((k : ℕ) → k < length s → get_or s k 0 ≡ c → ⊥)
+    (λ i. (i < length s) × (get_or s i 0 ≡ c) × ((k : ℕ) → k < i → get_or s k 0 ≡ c → ⊥))
+    → MatchOption r (index_of c s ≡ length s) (λ i. (i ≡ index_of c s) × (i < length s))
+placed c s None h = index_none c s h
+placed c s (Some i) h = (index_found c s i h.0 h.1 h.2, h.0)
 
-pub returns-then-s-i-clause-place : goal.returns-then-s-i-clause-place
-returns-then-s-i-clause-place c =
-    let g = c.args in
-    let l = c.loop-i in found_here g.c g.s.now g.end l.i (omega arith) (omega arith) (omega arith) ∙ l.invariant.2
-
-pub returns-clause-place : goal.returns-clause-place
-returns-clause-place c =
-    let g = c.args in
-    let l = c.loop-i in
-    let e : g.end ≡ l.i = omega arith in
-    found_none g.c g.s.now g.end g.end (omega arith) ∙ ap (found g.c g.s.now g.end) e ∙ l.invariant.2
+pub returns : goal.returns
+returns c =
+    let s = c.args.s.now in
+    let e : MatchOption c.position.result ((k : ℕ) → k < length s → get_or s k 0 ≡ c.args.c → ⊥)
+    (λ i. (i < length s) × (get_or s i 0 ≡ c.args.c) × ((k : ℕ) → k < i → get_or s k 0 ≡ c.args.c → ⊥)) = search rules in
+    placed c.args.c s c.position.result e

@@ -10,5 +10,5 @@ pub returns : goal.returns
 returns c =
     let l = c.args.rec.now in
     let e : length (take 360 (drop 72 l)) ≡ 360 = simp (length-take, length-drop) (omega arith) in
-    patch_lent l 72 360 c.clear.new.d (replicate 360 0) (omega arith) c.clear.auto.d
-    (c.clear.ensures ∙ ap (λ (n : ℕ). replicate n 0) e)
+    patch_lent l 72 360 c.fill.new.self (replicate 360 0) (omega arith) c.fill.auto.self
+    (c.fill.ensures.after (λ y h. h) ∙ ap (λ (n : ℕ). replicate n 0) e)

@@ -5,5 +5,7 @@ use Rattle.units.proofs.fields.write_numbers.Goals as goal
 
 pub returns : goal.returns
 returns c =
-    numbers_steps c.args.unit.0 c.args.method c.args.tag _ _ _ _ _ _ _ (blank_is _ _ c.clear.ensures c.requires)
-    c.put2.ensures c.put2-2.ensures c.set_method.ensures c.set_mask.ensures c.set_tag.ensures c.set_step.ensures
+    let g = c.args.build in
+    numbers_steps g.unit.0 g.method g.tag _ _ _ _ _ _ _ (blank_is _ _ (c.fill.ensures.after (λ y h. h)) c.told-rec)
+    (rw c.bytes_of.ensures at c.put.ensures) (rw c.bytes_of-2.ensures at c.put-2.ensures) c.set_method.ensures c.set_mask.ensures
+    c.set_tag.ensures c.set_step.ensures

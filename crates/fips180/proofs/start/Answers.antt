@@ -1,9 +1,0 @@
--- The initial value has taken in nothing.
-use mathlib.Core.Path.{refl}
-use Rattle.md.specs.Chain.{absorb}
-use Rattle.fips180.specs.Sha1.{initial}
-use Rattle.fips180.proofs.start.Goals as goal
-
-pub returns : goal.returns
-unfolding initial absorb
-returns c = record { count = refl; whole = refl; rest = refl }

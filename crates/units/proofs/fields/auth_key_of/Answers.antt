@@ -1,7 +1,0 @@
--- What is read is the field.
-use Rattle.units.specs.Unit.{auth_key_of}
-use Rattle.units.proofs.fields.auth_key_of.Goals as goal
-
-pub returns : goal.returns
-unfolding auth_key_of
-returns c = c.bytes20.ensures

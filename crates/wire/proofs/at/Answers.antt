@@ -1,8 +1,0 @@
--- Past the end the default stands.
-use mathlib.Core.Path.{sym}
-use lib.ListN.{get_or-eq_default}
-use borrow.Author.Rules.{rules}
-use Rattle.wire.proofs.at.Goals as goal
-
-pub returns-else-i-s : goal.returns-else-i-s
-returns-else-i-s c = sym (get_or-eq_default c.args.s.now 0 (search rules))
