@@ -31,9 +31,9 @@
  * system, no allocator, no start-up code. It writes the 128 bytes below the stack pointer that this convention leaves to a function (the
  * red zone), so an interrupt must not run on the same stack right below it.
  *
- * Size and stack, of the library that this file came with: 22,353 bytes of code and constants, none of data (`size` on the object). The
- * most stack that a call takes, its return address with it: nn_open 2,648 bytes, nn_close 3,192, nn_build 1,336, nn_abort 984,
- * nn_reset 40, nn_sha1 856, nn_hmac_sha1 2,088. These are the frames of the compiled code, added up along the deepest path of calls by
+ * Size and stack, of the library that this file came with: 22,002 bytes of code and constants, none of data (`size` on the object). The
+ * most stack that a call takes, its return address with it: nn_open 1,780 bytes, nn_close 1,860, nn_build 900, nn_abort 756,
+ * nn_reset 40, nn_sha1 660, nn_hmac_sha1 1,252. These are the frames of the compiled code, added up along the deepest path of calls by
  * `tools/stack`: no function calls itself, and none is called through a pointer. What memcpy and memset take beyond their return address
  * comes on top, and so do arguments that the caller passes on the stack. Calls on a painted stack, good and bad ones, 316,000 of nn_open
  * among them, wrote no further down than that.
