@@ -36,7 +36,7 @@
  * nn_reset 40, nn_sha1 660, nn_hmac_sha1 1,252. These are the frames of the compiled code, added up along the deepest path of calls by
  * `tools/stack`: no function calls itself, and none is called through a pointer. What memcpy and memset take beyond their return address
  * comes on top, and so do arguments that the caller passes on the stack. Calls on a painted stack, good and bad ones, 316,000 of nn_open
- * among them, wrote no further down than that.
+ * among them, wrote no further down than the word of eight bytes in which that ends.
  */
 #ifndef NECTARNOOK_H
 #define NECTARNOOK_H
