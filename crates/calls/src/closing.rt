@@ -57,6 +57,7 @@ fn close_check(
 }
 
 // Does what an Out page says, with a list that nothing is wrong with: to the unit's attributes, or to its key set, where its keeper has it.
+// The clauses on the list stay, as in `set_keys`, whose contract takes page and list.
 fn obey(units: &mut UnitTable, unit: Unit, page: u32, list: &[u8])
     requires { (unit_state units.old unit ≡ Used) × (length list.now ≡ total_of page) × (wrong_list page list.now ≡ false) }
     ensures { units.new ≡ laid units.old unit (made_by (seen units.old unit) page list.now) }

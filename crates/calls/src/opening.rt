@@ -22,7 +22,7 @@ pub struct Answered {
     pub answer: Answer,
 }
 
-// Parks a command in the lowest sound free slot, if there is one.
+// Parks a command in the lowest sound free slot, if there is one. (On its lengths, see `slots::park`.)
 fn park(slots: &mut SlotTable, unit: UnitNo, command: &[u8], token: &[u8]) -> Answer
     requires { (length command.now ≤ 100) × (length token.now ≤ 64) }
     ensures { leaves result slots.new ≡ parked_in slots.old (asked unit.0 command.now token.now) (lowest_free slots.old) }

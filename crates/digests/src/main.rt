@@ -46,6 +46,7 @@ fn say<W: Write>(to: &mut W, words: &[u8], read: bool, told: &mut Told) {
 fn answer_all<R: Read, W: Write>(from: &mut R, to: &mut W, told: &mut Told) -> io::Result<()> {
     let mut lines = Lines::new(from);
     let mut line = ArrayVec::<u8, 16384>::new();
+    // A proved loop has to end, and nothing says that an input does.
     for _ in 0..u64::MAX {
         match lines.next_line(&mut line)? {
             Line::Whole => match answer(text::without_return(&line)) {

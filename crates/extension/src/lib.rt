@@ -64,7 +64,7 @@ fn descriptor_at(c: &[u8], at: usize, before: Carried) -> Result<Read, Wrong>
 }
 
 // The list from `at` on, of at most `left` descriptors: one descriptor, followed by a shorter list. It calls itself no more than `left`
-// times.
+// times. Document 01 names the form: recursion over the bytes that are left.
 fn list_from(c: &[u8], at: usize, left: u32, before: Carried) -> Result<Carried, Wrong>
     ensures { carried_at c.now result ≡ list_from left (carried_at c.now (Ok before)) (drop at c.now) }
 {

@@ -58,7 +58,7 @@ impl Running {
         wire::put(&mut self.buffer, 0, &part[done..]);
     }
 
-    // Takes in one part more. Every digest goes through here.
+    // Takes in one part more. Every digest goes through here (document 01 names the form; docs/DECISIONS.md, D43).
     pub fn feed(&mut self, part: &[u8])
         ensures { Takes Holds self.old part.now self.new }
     {

@@ -136,6 +136,7 @@ pub fn refuse(reason: u8) -> Answer
 }
 
 // The CDB's length, 0 where the code has none: a length like any other for who cuts a command there, and no command's.
+// It stays a number: the definition `cdb_len` gives 0, and `legal_len` takes it as a length.
 #[tactic(auto, unfolding(crate::specs::Codes::cdb_len))]
 pub fn cdb_len(code: u8) -> u32
     ensures { result ≡ cdb_len code }
@@ -166,7 +167,8 @@ pub fn legal_len(code: u8, n: usize) -> bool
     cdb != 0 && (n == cdb || n == cdb + 78)
 }
 
-// The total bytes of an Out page's parameter list, 0 for any other page (docs/DECISIONS.md, D20).
+// The total bytes of an Out page's parameter list, 0 for any other page (docs/DECISIONS.md, D20): the definition
+// `total_of` gives 0, and the tests of a list take it as a length.
 #[tactic(auto, unfolding(crate::specs::Totals::total_of))]
 pub fn out_total(page: u32) -> u32
     ensures { result ≡ total_of page }

@@ -1,5 +1,5 @@
 // The units, slots and versions of a working key that there are: a value of one of these types is a number in its range. They are three
-// types and not one over the bound, so that none is taken for another.
+// types and not one over the bound, since document 01 wants that none is ever taken for another.
 ghost use Rattle.std.specs.Prelude.{◌≡◌, ℕ, ◌<◌, ◌↔◌, IsSome, IfSome};
 
 use crate::{SlotNo, UnitNo};

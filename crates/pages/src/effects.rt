@@ -13,7 +13,8 @@ use hmac::Mac;
 use model::KeyVersion;
 use seal::Record;
 
-// Set Attributes: the unit's method and tag, whatever else the list says.
+// Set Attributes: the unit's method and tag, whatever else the list says. Its length is promised too: how long a lent record is after a
+// call is no fact at the caller, which was tried.
 pub fn set_attributes(own: &mut Record, list: &[u8])
     ensures set { own.new ≡ attributes_set (new_method list.now) (new_tag list.now) own.old }
     ensures whole { length own.new ≡ 512 }
@@ -112,6 +113,7 @@ fn change(keys: &mut Record)
 }
 
 // What the page makes of a key set, with a list that nothing is wrong with. A page that is none of the three leaves it alone.
+// Its clauses on the list stay, since its contract takes page and list. The record's length is promised as above.
 pub fn set_keys(keys: &mut Record, page: u32, list: &[u8])
     requires { (length list.now ≡ total_of page) × (wrong_list page list.now ≡ false) }
     ensures set { keys.new ≡ new_keys page list.now keys.old }

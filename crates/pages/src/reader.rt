@@ -1,4 +1,4 @@
-// How a parameter list is read (document 01, "Pages"): by a reader that holds the lent list and how far it got, and goes on from field to
+// How a parameter list is read (document 01, which names the form; docs/DECISIONS.md, D50): by a reader that holds the lent list and how far it got, and goes on from field to
 // field.
 ghost use Rattle.std.specs.Prelude.{◌≡◌, ◌+◌, ◌≤◌, ◌<◌, drop};
 ghost use Rattle.wire.specs.Bytes.{number};

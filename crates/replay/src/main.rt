@@ -42,6 +42,7 @@ fn obey_all<R: Read, W: Write>(from: &mut R, to: &mut W, told: &mut Told) -> io:
     let mut line = ArrayVec::<u8, 4096>::new();
     let mut state = State::new();
     let mut n = 0;
+    // A proved loop has to end, and nothing says that an input does.
     for _ in 0..u64::MAX {
         let call = match lines.next_line(&mut line)? {
             Line::Whole => listing::read(text::without_return(&line)),

@@ -45,7 +45,7 @@ fn put_fields<const N: usize>(out: &mut ArrayString<N>, rec: &[u8]) -> fmt::Resu
 }
 
 // The record of a slot in the slot table, in plain lines: one where it is free, else what it is and then its fields, as they stand. Of a
-// slot above 15, or of a table of another length, nothing.
+// slot above 15, or of a table of another length, nothing. Not one function with a unit's: tables, states and fields are two.
 pub fn put_slot<const N: usize>(
     out: &mut ArrayString<N>,
     slots: &[u8],

@@ -60,7 +60,7 @@ fn put_fields<const N: usize>(out: &mut ArrayString<N>, rec: &Record) -> fmt::Re
 }
 
 // The record of a unit in the unit table, in plain lines: one where it is unused, else what it is and then its fields, as they stand. Of
-// a unit above 7, or of a table of another length, nothing.
+// a unit above 7, or of a table of another length, nothing. Not one function with a slot's: tables, states and fields are two.
 pub fn put_unit<const N: usize>(
     out: &mut ArrayString<N>,
     units: &[u8],

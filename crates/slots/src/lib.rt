@@ -27,7 +27,7 @@ pub const TOKEN: usize = 108;
 
 const UNNAMED: usize = 172;
 
-// What the record of a slot is.
+// What the record of a slot is. Not one type with a unit's: their definitions are two, and name what is no unit's or no slot's.
 #[derive(Clone, Copy, PartialEq, Eq)]
 pub enum SlotState {
     Free,
@@ -164,7 +164,7 @@ fn open_head(unit: UnitNo, n: u32, m: u32) -> [u8; 8]
     [0, 1, u[0], u[1], c[0], c[1], t[0], t[1]]
 }
 
-// Makes the record of an open slot.
+// Makes the record of an open slot. (On its lengths, see `park`.)
 fn write_open(rec: &mut Record, unit: UnitNo, command: &[u8], token: &[u8])
     requires { (length command.now ≤ 100) × (length token.now ≤ 64) }
     ensures { rec.new ≡ open_record unit.0 command.now token.now }

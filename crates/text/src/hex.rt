@@ -120,7 +120,8 @@ impl fmt::Display for HexError {
 
 impl Error for HexError {}
 
-// Puts the bytes of s's pairs of digits behind those of out, which has room for them.
+// Puts the bytes of s's pairs of digits behind those of out, which has room for them. Pair by pair by its number, as `bytes_in` has them:
+// the digits stand in s two by two, and a chunk of it would have no digit's place.
 fn push_pairs<const N: usize>(s: &[u8], out: &mut ArrayVec<u8, N>)
     requires digits { all_digits 16 (length s.now) s.now ≡ true }
     requires room { array_vec_len out.old + length s.now / 2 ≤ N }

@@ -9,7 +9,7 @@ use std::io::Read;
 
 const CHUNK: usize = 4096;
 
-// What was found where a line was looked for.
+// What was found where a line was looked for: three things, none with a value, so that an Option of a Result would be no plainer.
 #[derive(Clone, Copy, Debug, PartialEq, Eq)]
 pub enum Line {
     Whole,

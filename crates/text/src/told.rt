@@ -5,7 +5,7 @@ ghost use Rattle.std.specs.Prelude.{◌≡◌, true, ◌+◌, ◌-◌, ◌^◌, 
 use std::fmt;
 use std::io::Write;
 
-// How a run over the lines of an input went: how many lines could not be read as what they are to be, and whether all answers were
+// How a run over the lines of an input went, in two facts of which neither may lack: how many lines could not be read as what they are to be, and whether all answers were
 // written.
 #[derive(Clone, Copy)]
 pub struct Told {

@@ -39,7 +39,8 @@ pub const KEEPER: usize = 432;
 
 pub const UNNAMED: usize = 434;
 
-// ---- read; a function for each field, and not one over a place, since its contract says the field's own definition
+// ---- read; a function for each field, and not one over a place, since its contract says the field's own definition. A field is a number as
+// its definition has it, since a damaged record holds any
 
 #[tactic(auto, unfolding(crate::specs::Unit::method))]
 pub fn method_of(rec: &[u8]) -> u32
@@ -232,7 +233,8 @@ fn write_numbers(rec: &mut Record, build: Build)
     set_step(rec, 0);
 }
 
-// A record as it is built, with its check, over whatever stood there.
+// A record as it is built, with its check, over whatever stood there. Its length is promised too: how long a lent record is after a
+// call is no fact at the caller, which was tried.
 pub fn write_built(rec: &mut Record, build: Build)
     ensures built { rec.new ≡ used_record (built build.unit.0 build.method build.tag build.identifier build.auth_key build.gen_key build.keeper) }
     ensures whole { length rec.new ≡ 512 }

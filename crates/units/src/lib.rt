@@ -19,6 +19,7 @@ use seal::Record;
 
 pub type UnitTable = [u8; 4096];
 
+// What the record of a unit is. Not one type with a slot's: their definitions are two, and name what is no unit's or no slot's.
 #[derive(Clone, Copy, PartialEq, Eq)]
 pub enum UnitState {
     Unused,
