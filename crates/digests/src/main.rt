@@ -8,15 +8,19 @@ use std::io;
 use std::io::{Read, Write};
 use text::{Line, Lines, Told, word_at, word_end};
 
-// The bytes that a word says, if it is hex. Two digits say a byte, so that there is room for those of any line that is not too long.
-fn bytes_of(word: &[u8]) -> Option<ArrayVec<u8, 8192>> {
-    let mut bytes = ArrayVec::new();
-    text::unhex(word, &mut bytes).ok()?;
-    Some(bytes)
+// Room for the bytes of a word. Two digits say a byte, so that those of any line that is not too long have room. A run has two, which each
+// line uses again.
+type Room = ArrayVec<u8, 8192>;
+
+// The bytes that a word says, laid into the room, if it is hex.
+fn bytes_of<'a>(word: &[u8], room: &'a mut Room) -> Option<&'a [u8]> {
+    room.clear();
+    text::unhex(word, room).ok()?;
+    Some(room)
 }
 
 // The digest that a line asks for, if it is a request.
-fn answer(line: &[u8]) -> Option<[u8; 20]> {
+fn answer(line: &[u8], one: &mut Room, other: &mut Room) -> Option<[u8; 20]> {
     let behind_call = word_end(line, 0);
     let behind_first = word_end(line, behind_call);
     let behind_second = word_end(line, behind_first);
@@ -24,8 +28,10 @@ fn answer(line: &[u8]) -> Option<[u8; 20]> {
     let second = word_at(line, behind_first);
     let third = word_at(line, behind_second);
     match word_at(line, 0) {
-        b"hash" if second.is_empty() => Some(fips180::hash(&bytes_of(first)?)),
-        b"mac" if third.is_empty() => Some(hmac::hmac_of(&bytes_of(first)?, &bytes_of(second)?)),
+        b"hash" if second.is_empty() => Some(fips180::hash(bytes_of(first, one)?)),
+        b"mac" if third.is_empty() => {
+            Some(hmac::hmac_of(bytes_of(first, one)?, bytes_of(second, other)?))
+        }
         _ => None,
     }
 }
@@ -46,10 +52,12 @@ fn say<W: Write>(to: &mut W, words: &[u8], read: bool, told: &mut Told) {
 fn answer_all<R: Read, W: Write>(from: &mut R, to: &mut W, told: &mut Told) -> io::Result<()> {
     let mut lines = Lines::new(from);
     let mut line = ArrayVec::<u8, 16384>::new();
+    let mut one = Room::new();
+    let mut other = Room::new();
     // A proved loop has to end, and nothing says that an input does.
     for _ in 0..u64::MAX {
         match lines.next_line(&mut line)? {
-            Line::Whole => match answer(text::without_return(&line)) {
+            Line::Whole => match answer(text::without_return(&line), &mut one, &mut other) {
                 Some(digest) => say(to, &text::hex20(digest), true, told),
                 None => say(to, b"not a request", false, told),
             },
@@ -63,5 +71,5 @@ fn answer_all<R: Read, W: Write>(from: &mut R, to: &mut W, told: &mut Told) -> i
 fn main(rt: HostRuntime) {
     let mut told = Told::new();
     let input = answer_all(&mut rt.stdin(), &mut rt.stdout(), &mut told);
-    told.report(&mut rt.stderr(), "digests", input.is_err());
+    told.report(&mut rt.stderr(), b"digests", input.is_err());
 }

@@ -1,4 +1,8 @@
 // What is printed for a line: the text of answers and digests, put behind what stands in `out`.
+ghost use Rattle.std.specs.Prelude.{◌≡◌};
+ghost use Rattle.text.specs.Lists.{line_of};
+ghost use Rattle.listing.specs.Texts.{reason_words, plain_line, plain_answers};
+
 use arrayvec::ArrayString;
 use model::{Answer, Sense};
 use std::fmt;
@@ -6,7 +10,10 @@ use std::fmt::Write;
 use text::put_hex;
 
 // The words of a reason, as docs/MANUAL.md has them, by its number, as a sense has it; of a number that is no reason there are none.
-fn reason_words(reason: u8) -> &'static str {
+#[tactic(auto, unfolding(text::specs::Lists::line_of, text::specs::Scan::index_of, crate::specs::Texts::reasons, crate::specs::Texts::reason_numbers))]
+fn reason_words(reason: u8) -> &'static str
+    ensures { result.now ≡ reason_words reason }
+{
     match reason {
         1 => "the unit is above 7, or its record sound and unused",
         0x1b => {
@@ -60,6 +67,23 @@ fn check_text<const N: usize>(
     Ok(())
 }
 
+// An answer that has no values: its number, and its status where it has one. Of one that has values there is no such text.
+#[tactic(auto, unfolding(text::specs::Lists::line_of, text::specs::Scan::index_of, crate::specs::Texts::plain_answers))]
+fn plain_text(answer: Answer) -> &'static str
+    ensures { result.now ≡ line_of (plain_line answer) plain_answers }
+{
+    match answer {
+        Answer::Run => "A2 00",
+        Answer::Full => "A4 28",
+        Answer::H1 => "H1",
+        Answer::H2 => "H2",
+        Answer::H3 => "H3",
+        Answer::H4 => "H4",
+        Answer::H5 => "H5",
+        Answer::Good(_) | Answer::Parked(_) | Answer::Check(_) => "",
+    }
+}
+
 // The answer of a call: document 01's number and values, and for A0 the bytes that it wrote to the reply. With `explain` an A3 has its
 // reason's words behind it.
 pub fn answer_text<const N: usize>(
@@ -75,13 +99,7 @@ pub fn answer_text<const N: usize>(
         }
         Answer::Parked(slot) => write!(out, "A1 {}", slot.0),
         Answer::Check(sense) => check_text(out, sense, explain),
-        Answer::Run => out.write_str("A2 00"),
-        Answer::Full => out.write_str("A4 28"),
-        Answer::H1 => out.write_str("H1"),
-        Answer::H2 => out.write_str("H2"),
-        Answer::H3 => out.write_str("H3"),
-        Answer::H4 => out.write_str("H4"),
-        Answer::H5 => out.write_str("H5"),
+        answer => out.write_str(plain_text(answer)),
     }
 }
 

@@ -1,5 +1,7 @@
 // The words of a line, one after another: numbers, byte strings, and what can be wrong with each.
-ghost use Rattle.std.specs.Prelude.{◌≤◌, IfOk};
+ghost use Rattle.std.specs.Prelude.{◌≤◌, IfOk, Some};
+ghost use Rattle.text.specs.Lists.{line_of};
+ghost use Rattle.listing.specs.Texts.{faults, fault_line};
 
 use arrayvec::ArrayVec;
 use std::error::Error;
@@ -22,6 +24,9 @@ pub enum Fault {
 }
 
 impl fmt::Display for Fault {
+    ghost output = { λ f. Some (line_of (fault_line f) faults) };
+
+    #[tactic(auto, unfolding(text::specs::Lists::line_of, text::specs::Scan::index_of, crate::specs::Texts::faults))]
     fn fmt<W: fmt::Write>(&self, f: &mut fmt::Formatter<W>) -> fmt::Result {
         f.write_str(match self {
             Fault::UnknownWord => "unknown word",
@@ -56,8 +61,19 @@ impl fmt::Display for Wrong {
 
 impl Error for Wrong {}
 
-// A byte string of a line. Two digits say a byte, so that any fits of a line that is not too long.
-pub type Bytes = ArrayVec<u8, 2048>;
+// A byte string of a line: where it stands in the room lent for them, in which those of a line stand one after another.
+#[derive(Clone, Copy, Debug, PartialEq, Eq)]
+pub struct Bytes {
+    start: usize,
+    end: usize,
+}
+
+impl Bytes {
+    // The bytes, of the room that the line was read into; none of one that does not have them.
+    pub fn of(self, room: &[u8]) -> &[u8] {
+        room.get(self.start..self.end).unwrap_or(&[])
+    }
+}
 
 // A word, and its number in the line.
 #[derive(Clone, Copy)]
@@ -84,19 +100,26 @@ impl<'a> Word<'a> {
         text::number_of(self.text, most).ok_or(self.wrong(Fault::NumberTooLarge))
     }
 
-    // The word as a byte string.
-    pub fn bytes(self) -> Result<Bytes, Wrong> {
-        let mut bytes = ArrayVec::new();
-        match text::unhex(self.text, &mut bytes) {
-            Ok(()) => Ok(bytes),
+    // The word as a byte string, laid behind those that the room holds. What it has no room for is not read as hex.
+    pub fn bytes<const N: usize>(self, room: &mut ArrayVec<u8, N>) -> Result<Bytes, Wrong> {
+        let start = room.len();
+        match text::unhex(self.text, room) {
+            Ok(()) => Ok(Bytes {
+                start,
+                end: room.len(),
+            }),
             Err(_) => Err(self.wrong(Fault::NotHex)),
         }
     }
 
-    // The word as a byte string of N bytes; one of any other length has the fault.
-    fn exactly<const N: usize>(self, otherwise: Fault) -> Result<[u8; N], Wrong> {
-        let bytes = self.bytes()?;
-        <[u8; N]>::try_from(bytes.as_slice()).map_err(|_| self.wrong(otherwise))
+    // The word as a byte string of LEN bytes; one of any other length has the fault.
+    fn exactly<const LEN: usize, const N: usize>(
+        self,
+        room: &mut ArrayVec<u8, N>,
+        otherwise: Fault,
+    ) -> Result<[u8; LEN], Wrong> {
+        let bytes = self.bytes(room)?;
+        <[u8; LEN]>::try_from(bytes.of(room)).map_err(|_| self.wrong(otherwise))
     }
 }
 
@@ -155,13 +178,17 @@ impl<'a> Words<'a> {
     }
 
     // The next word as a byte string.
-    pub fn bytes(&mut self) -> Result<Bytes, Wrong> {
-        self.next()?.bytes()
+    pub fn bytes<const N: usize>(&mut self, room: &mut ArrayVec<u8, N>) -> Result<Bytes, Wrong> {
+        self.next()?.bytes(room)
     }
 
-    // The next word as a byte string of N bytes; one of any other length has the fault.
-    pub fn exactly<const N: usize>(&mut self, otherwise: Fault) -> Result<[u8; N], Wrong> {
-        self.next()?.exactly(otherwise)
+    // The next word as a byte string of LEN bytes; one of any other length has the fault.
+    pub fn exactly<const LEN: usize, const N: usize>(
+        &mut self,
+        room: &mut ArrayVec<u8, N>,
+        otherwise: Fault,
+    ) -> Result<[u8; LEN], Wrong> {
+        self.next()?.exactly(room, otherwise)
     }
 
     // Where the next word is `keeper`, the keeper field that the number behind it asks for: one more than the keeper's number. Any other

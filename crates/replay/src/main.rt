@@ -6,28 +6,16 @@
 mod state;
 
 use arrayvec::ArrayVec;
-use listing::{Call, Fault, Wrong};
+use listing::{Fault, Wrong};
 use state::{State, Text};
 use std::fmt::Write as _;
-use std::io;
 use std::io::{Read, Write};
+use std::{fmt, io};
 use text::{Line, Lines, Told, counted};
 
-// Obeys line n, of which `call` is what it asks for or what is wrong with it. Its answer is printed by one write, where all before it was
-// written; some calls have none.
-fn obey<W: Write>(
-    to: &mut W,
-    state: &mut State,
-    n: u64,
-    call: Result<Call, Wrong>,
-    told: &mut Told,
-) {
-    let mut out = Text::new();
-    let read = call.is_ok();
-    let put = match call {
-        Ok(call) => state.obey(&mut out, call),
-        Err(wrong) => write!(out, "line {n}: {wrong}"),
-    };
+// Prints what was put together for a line, by one write, where all before it was written; some calls have nothing to print. `put` says
+// whether it had room, `read` whether the line could be read.
+fn print<W: Write>(to: &mut W, out: &mut Text, put: fmt::Result, read: bool, told: &mut Told) {
     if out.is_empty() {
         return;
     }
@@ -40,12 +28,14 @@ fn obey<W: Write>(
 fn obey_all<R: Read, W: Write>(from: &mut R, to: &mut W, told: &mut Told) -> io::Result<()> {
     let mut lines = Lines::new(from);
     let mut line = ArrayVec::<u8, 4096>::new();
+    let mut room = ArrayVec::<u8, 4096>::new();
+    let mut out = Text::new();
     let mut state = State::new();
     let mut n = 0;
     // A proved loop has to end, and nothing says that an input does.
     for _ in 0..u64::MAX {
         let call = match lines.next_line(&mut line)? {
-            Line::Whole => listing::read(text::without_return(&line)),
+            Line::Whole => listing::read(text::without_return(&line), &mut room),
             Line::TooLong => Err(Wrong {
                 fault: Fault::LineTooLong,
                 word: None,
@@ -53,7 +43,13 @@ fn obey_all<R: Read, W: Write>(from: &mut R, to: &mut W, told: &mut Told) -> io:
             Line::End => break,
         };
         n = counted(n);
-        obey(to, &mut state, n, call, told);
+        out.clear();
+        let read = call.is_ok();
+        let put = match call {
+            Ok(call) => state.obey(&mut out, call, &room),
+            Err(wrong) => write!(out, "line {n}: {wrong}"),
+        };
+        print(to, &mut out, put, read, told);
     }
     Ok(())
 }
@@ -61,5 +57,5 @@ fn obey_all<R: Read, W: Write>(from: &mut R, to: &mut W, told: &mut Told) -> io:
 fn main(rt: HostRuntime) {
     let mut told = Told::new();
     let input = obey_all(&mut rt.stdin(), &mut rt.stdout(), &mut told);
-    told.report(&mut rt.stderr(), "replay", input.is_err());
+    told.report(&mut rt.stderr(), b"replay", input.is_err());
 }

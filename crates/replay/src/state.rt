@@ -59,8 +59,8 @@ impl State {
         listing::answer_text(out, answer, &self.reply, self.explain)
     }
 
-    // Does what a line asks for, and puts what is printed for it, which for some is nothing.
-    pub fn obey(&mut self, out: &mut Text, call: Call) -> fmt::Result {
+    // Does what a line asks for, its byte strings in the room, and puts what is printed for it, which for some is nothing.
+    pub fn obey(&mut self, out: &mut Text, call: Call, room: &[u8]) -> fmt::Result {
         match call {
             Call::Blank => Ok(()),
             Call::Build(build) => {
@@ -78,8 +78,8 @@ impl State {
                     &mut self.slots,
                     &mut self.reply,
                     unit,
-                    &command,
-                    &token,
+                    command.of(room),
+                    token.of(room),
                     clock,
                 );
                 self.answered(out, made.answer)
@@ -90,7 +90,7 @@ impl State {
                     &mut self.slots,
                     &self.reply,
                     slot,
-                    &list,
+                    list.of(room),
                     clock,
                 );
                 self.answered(out, made.answer)
@@ -104,7 +104,7 @@ impl State {
                 self.answered(out, answer)
             }
             Call::Poke { table, at, bytes } => {
-                self.poke(table, at, &bytes);
+                self.poke(table, at, bytes.of(room));
                 Ok(())
             }
             Call::State => listing::state_text(out, &self.units, &self.slots, &self.reply),

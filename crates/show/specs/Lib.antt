@@ -1,2 +1,3 @@
 -- What the crate's contracts cite: the meanings.
 pub mod Parts
+pub mod Texts

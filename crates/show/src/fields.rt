@@ -1,6 +1,9 @@
 // Values of fields, as they are shown. A field's line starts with a newline and two spaces, so that it stands under the record's first
 // line.
-ghost use Rattle.std.specs.Prelude.{◌<◌};
+ghost use Rattle.std.specs.Prelude.{◌≡◌, ◌<◌, MatchOption};
+ghost use Rattle.text.specs.Scan.{index_of};
+ghost use Rattle.text.specs.Lists.{line_of};
+ghost use Rattle.show.specs.Texts.{command_codes, command_names, page_codes, page_names};
 
 use model::KeyVersion;
 use seal::Record;
@@ -75,23 +78,48 @@ impl fmt::Display for Keeper {
     }
 }
 
+// The name of a command that carries data out.
+#[tactic(auto, unfolding(text::specs::Lists::line_of, text::specs::Scan::index_of, crate::specs::Texts::command_codes, crate::specs::Texts::command_names))]
+fn command_name(code: u8) -> Option<&'static str>
+    ensures { MatchOption result (index_of code command_codes ≡ 8) (λ name. name.now ≡ line_of (index_of code command_codes) command_names) }
+{
+    match code {
+        0x0A => Some("WRITE(6)"),
+        0x15 => Some("MODE SELECT(6)"),
+        0x2A => Some("WRITE(10)"),
+        0x2E => Some("WRITE AND VERIFY(10)"),
+        0x55 => Some("MODE SELECT(10)"),
+        0x8A => Some("WRITE(16)"),
+        0xAA => Some("WRITE(12)"),
+        0xB5 => Some("SECURITY PROTOCOL OUT"),
+        _ => None,
+    }
+}
+
 // A data-out command by its name, any other by its code.
 #[derive(Clone, Copy)]
 pub struct Command(pub u8);
 
 impl fmt::Display for Command {
     fn fmt<W: Write>(&self, f: &mut fmt::Formatter<W>) -> fmt::Result {
-        f.write_str(match self.0 {
-            0x0A => "WRITE(6)",
-            0x15 => "MODE SELECT(6)",
-            0x2A => "WRITE(10)",
-            0x2E => "WRITE AND VERIFY(10)",
-            0x55 => "MODE SELECT(10)",
-            0x8A => "WRITE(16)",
-            0xAA => "WRITE(12)",
-            0xB5 => "SECURITY PROTOCOL OUT",
-            code => return write!(f, "code {code:02X}h"),
-        })
+        match command_name(self.0) {
+            Some(name) => f.write_str(name),
+            None => write!(f, "code {:02X}h", self.0),
+        }
+    }
+}
+
+// The name of a page of SECURITY PROTOCOL OUT, behind a space; of one that is not listed nothing.
+#[tactic(auto, unfolding(text::specs::Lists::line_of, text::specs::Scan::index_of, crate::specs::Texts::page_codes, crate::specs::Texts::page_names))]
+fn page_name(page: u32) -> &'static str
+    ensures { result.now ≡ line_of (index_of page page_codes) page_names }
+{
+    match page {
+        model::SET_ATTRIBUTES => " Set Attributes",
+        model::SEED_EXCHANGE => " Seed Exchange",
+        model::SET_KEY => " Set Key",
+        model::CHANGE_MASTER => " Change Master Key",
+        _ => "",
     }
 }
 
@@ -102,12 +130,6 @@ pub struct Page(pub u16);
 impl fmt::Display for Page {
     fn fmt<W: Write>(&self, f: &mut fmt::Formatter<W>) -> fmt::Result {
         write!(f, " page {:04X}h", self.0)?;
-        f.write_str(match u32::from(self.0) {
-            model::SET_ATTRIBUTES => " Set Attributes",
-            model::SEED_EXCHANGE => " Seed Exchange",
-            model::SET_KEY => " Set Key",
-            model::CHANGE_MASTER => " Change Master Key",
-            _ => "",
-        })
+        f.write_str(page_name(u32::from(self.0)))
     }
 }

@@ -7,6 +7,10 @@ mod parts;
 mod slot;
 mod unit;
 
+ghost use Rattle.std.specs.Prelude.{Some};
+ghost use Rattle.text.specs.Lists.{line_of};
+ghost use Rattle.show.specs.Texts.{unit_part_text, slot_part_line, slot_parts};
+
 use arrayvec::ArrayString;
 use model::{KeyVersion, SlotNo, UnitNo};
 pub use parts::{slot_part, unit_part};
@@ -30,6 +34,9 @@ pub enum UnitPart {
 }
 
 impl fmt::Display for UnitPart {
+    ghost output = { λ p. Some (unit_part_text p) };
+
+    #[tactic(auto, unfolding(text::specs::Lists::line_of, text::specs::Scan::index_of, crate::specs::Texts::unit_parts))]
     fn fmt<W: Write>(&self, f: &mut fmt::Formatter<W>) -> fmt::Result {
         f.write_str(match self {
             UnitPart::Check => "check",
@@ -59,6 +66,9 @@ pub enum SlotPart {
 }
 
 impl fmt::Display for SlotPart {
+    ghost output = { λ p. Some (line_of (slot_part_line p) slot_parts) };
+
+    #[tactic(auto, unfolding(text::specs::Lists::line_of, text::specs::Scan::index_of, crate::specs::Texts::slot_parts))]
     fn fmt<W: Write>(&self, f: &mut fmt::Formatter<W>) -> fmt::Result {
         f.write_str(match self {
             SlotPart::Check => "check",

@@ -10,6 +10,7 @@ use Rattle.text.specs.Digits.{last_digits, hex_digit_ascii, IsDigitCount}
 use Rattle.text.specs.Hex.{value, all_digits}
 use Rattle.text.specs.Decimal.{decimal_of, SpelledOut}
 use Rattle.text.proofs.HexLaws.{last_or_before, one_more, all_below, value_numeral}
+use Rattle.text.proofs.PowerLaws.{digit_count_le}
 
 -- each digit more says no less
 pub decimal_grows : (i n : ℕ) (s : List ℕ) → i ≤ n → decimal_of i s ≤ decimal_of n s
@@ -30,6 +31,11 @@ glyph_value d h = rw (lt-ltb d 10 h) (value_numeral (48 + d) (omega arith) (omeg
 pub spelled_length : (k x : ℕ) → length (last_digits 10 k x) ≡ k
 spelled_length zero x = refl
 spelled_length (suc k) x = length-append (last_digits 10 k (x / 10)) _ ∙ omega (arith, spelled_length k (x / 10))
+
+-- a number of 64 bits takes at most twenty digits
+pub spelled_short : (x : ℕ) (t : List ℕ) → x < 2 ^ 64 → SpelledOut x t → length t ≤ 20
+spelled_short x t h said =
+    rw (said.1.1, spelled_length said.0 x) (digit_count_le 10 1 x said.0 20 (omega arith) said.1.0 (omega arith) (omega arith))
 
 -- the same digits, the same number
 decimal_ext : (n : ℕ) (s t : List ℕ) → ((i : ℕ) → i < n → get_or s i 0 ≡ get_or t i 0) → decimal_of n s ≡ decimal_of n t

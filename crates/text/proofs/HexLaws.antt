@@ -1,5 +1,5 @@
 -- Laws of hex digits: each in lower case is read as what it was written for, so bytes as text are read back as the same bytes.
-use Rattle.std.specs.Prelude.{◌≡◌, refl, ◌⊎◌, Bool, true, false, not, List, [], ◌∷◌, ◌++◌, ℕ, zero, suc, ◌+◌, ◌*◌, ◌-◌, ◌/◌, ◌%◌, ◌≤◌, ◌<◌, eqb, leb, ltb, get_or, take}
+use Rattle.std.specs.Prelude.{◌&&◌, ◌≡◌, refl, ◌⊎◌, Bool, true, false, not, List, [], ◌∷◌, ◌++◌, ℕ, zero, suc, ◌+◌, ◌*◌, ◌-◌, ◌/◌, ◌%◌, ◌≤◌, ◌<◌, eqb, leb, ltb, get_or, take}
 use Rattle.std.proofs.Common.{◌∙◌, sym, ap, ap₂, inl, inr, ⊎_elim, arith, length-append, append_assoc, append-nil, get_or-append-add, take-suc, ltb-true, ltb-false, lt-ltb, le-ltb, le-leb, leb-true, eqb-true, eq-eqb, ne_eqb}
 use Rattle.std.proofs.Math.ListN.{length, get_or-append}
 use Rattle.std.proofs.Math.Seq.{take-length}
@@ -46,6 +46,11 @@ all_none base s = refl
 pub all_next : (base i : ℕ) (s : List ℕ) → all_digits base (i + 1) s ≡ both (all_digits base i s) (ltb (value (get_or s i 0)) base)
 unfolding all_digits
 all_next base i s = rw (one_more i)
+
+-- one more is looked at
+pub all_more : (a : Bool) (base i v : ℕ) (s : List ℕ) → a ≡ all_digits base i s → v ≡ value (get_or s i 0)
+    → (a && ltb v base) ≡ all_digits base (i + 1) s
+all_more a base i v s e f = rw (e, f) (sym (all_next base i s))
 
 pub digits_none : (l : List ℕ) → digits_of 0 l ≡ []
 unfolding digits_of

@@ -1,5 +1,6 @@
 -- laws of the definitions of specs/
 pub mod HexLaws
+pub mod PowerLaws
 pub mod DecimalLaws
 pub mod WordLaws
 pub mod ScanLaws

@@ -81,11 +81,15 @@ pub fn value(c: u8) -> u8
     }
 }
 
-// Do all bytes of s say a value below base?
+// Do all bytes of s say a value below base? All are looked at, so that the compiler can take many at once.
 pub fn all_digits(s: &[u8], base: u8) -> bool
     ensures { result ≡ all_digits base (length s.now) s.now }
 {
-    s.iter().all(|&c| value(c) < base)
+    let mut all = true;
+    for &c in s {
+        all &= value(c) < base;
+    }
+    all
 }
 
 // Is s `-` alone?

@@ -5,8 +5,8 @@ ghost use Rattle.std.specs.Prelude.{◌≡◌, true, ◌+◌, ◌-◌, ◌^◌, 
 use std::fmt;
 use std::io::Write;
 
-// How a run over the lines of an input went, in two facts of which neither may lack: how many lines could not be read as what they are to be, and whether all answers were
-// written.
+// How a run over the lines of an input went, in two facts of which neither may lack: how many lines could not be read as what they are to
+// be, and whether all answers were written.
 #[derive(Clone, Copy)]
 pub struct Told {
     pub unread: u64,
@@ -35,6 +35,12 @@ pub fn counted(n: u64) -> u64
     n.saturating_add(1)
 }
 
+// A line that says it, behind the program's name. Where not even this can be written, nobody is left to be told.
+fn say<W: Write, D: fmt::Display + Copy>(to: &mut W, program: &[u8], what: D) {
+    let _ = to.write_all(program);
+    let _ = writeln!(to, ": {what}");
+}
+
 impl Told {
     // Before any line was answered.
     pub fn new() -> Told
@@ -57,17 +63,16 @@ impl Told {
         self.written = self.written && written;
     }
 
-    // Says what failed to `to`, the standard error; nothing where nothing did. Where not even this can be written, nobody is left to be
-    // told.
-    pub fn report<W: Write>(self, to: &mut W, program: &str, input_failed: bool) {
+    // Says what failed to `to`, the standard error; nothing where nothing did.
+    pub fn report<W: Write>(self, to: &mut W, program: &[u8], input_failed: bool) {
         if 0 < self.unread {
-            let _ = writeln!(to, "{program}: {}", Unread(self.unread));
+            say(to, program, Unread(self.unread));
         }
         if input_failed {
-            let _ = writeln!(to, "{program}: standard input could not be read");
+            say(to, program, "standard input could not be read");
         }
         if !self.written {
-            let _ = writeln!(to, "{program}: standard output could not be written");
+            say(to, program, "standard output could not be written");
         }
     }
 }

@@ -130,5 +130,5 @@ fn main(rt: HostRuntime) {
     let hashes_written = hashes(&mut out);
     let macs_written = macs(&mut out);
     told.written = hashes_written && macs_written;
-    told.report(&mut rt.stderr(), "vectors", false);
+    told.report(&mut rt.stderr(), b"vectors", false);
 }

@@ -51,7 +51,7 @@ pub fn load(s: &[u8], i: usize) -> u32
     requires { i + 3 < length s.now }
     ensures { result ≡ word_at s.now i }
 {
-    u32::from_be_bytes(wire::array(s, i))
+    u32::from_be_bytes([s[i], s[i + 1], s[i + 2], s[i + 3]])
 }
 
 // Stores the big-endian bytes of x from index i on.

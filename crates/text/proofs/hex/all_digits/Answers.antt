@@ -1,12 +1,19 @@
--- All say values below the base where the search for one that does not finds none.
-use Rattle.std.proofs.Common.{ℕ, ◌≡◌, ◌<◌, true, rules, get_or, length}
-use Rattle.std.specs.Prelude.{◌↔◌}
-use Rattle.text.specs.Hex.{value}
-use Rattle.text.proofs.HexLaws.{all_said}
+-- What was found of the digits so far; one more is looked at.
+use Rattle.std.proofs.Common.{ℕ, ◌≡◌, length, sym, ap, arith, ◌∙◌}
+use Rattle.text.specs.Hex.{all_digits}
+use Rattle.text.proofs.HexLaws.{all_none, all_more}
 use Rattle.text.proofs.hex.all_digits.Goals as goal
+
+pub loop-c-init : goal.loop-c-init
+loop-c-init c = sym (all_none c.args.base c.args.s.now)
+
+pub loop-c-preserved : goal.loop-c-preserved
+loop-c-preserved c =
+    let l = c.loop-c in
+    all_more l.all c.args.base l.c-index c.value.result c.args.s.now l.invariant c.value.ensures
 
 pub returns : goal.returns
 returns c =
-    let s = c.args.s.now in
-    let e : (c.all.result ≡ true) ↔ ((k : ℕ) → k < length s → value (get_or s k 0) < c.args.base) = search rules in
-    all_said c.all.result c.args.base s e.0 e.1
+    let l = c.loop-c in
+    let e : l.c-index ≡ length c.args.s.now = omega arith in
+    l.invariant ∙ ap (λ (n : ℕ). all_digits c.args.base n c.args.s.now) e
