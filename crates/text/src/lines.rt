@@ -2,8 +2,8 @@
 ghost use Rattle.std.specs.Prelude.{◌≡◌, ◌-◌, ◌^◌, ◌<◌, ◌≤◌, false, [], Ok};
 ghost use Rattle.text.specs.declared.lines.Line.TheVariants.{End};
 
-use super::find;
 use arrayvec::ArrayVec;
+use memchr::memchr;
 use std::io;
 use std::io::Read;
 
@@ -70,7 +70,7 @@ impl<'a, R: Read> Lines<'a, R> {
                 break;
             }
             let rest = &self.chunk[self.next..self.end];
-            let stop = find(rest, b'\n');
+            let stop = memchr(b'\n', rest);
             let part = &rest[..stop.unwrap_or(rest.len())];
             fits = fits && line.try_extend_from_slice(part).is_ok();
             if let Some(stop) = stop {

@@ -6,5 +6,10 @@ ghost use Rattle.text.specs.Scan.{index_of};
 pub fn find(s: &[u8], c: u8) -> Option<usize>
     ensures { MatchOption result (index_of c s.now ≡ length s.now) (λ i. (i ≡ index_of c s.now) × (i < length s.now)) }
 {
-    s.iter().position(|&b| b == c)
+    for i in 0..s.len() {
+        if s[i] == c {
+            return Some(i);
+        }
+    }
+    None
 }
